@@ -1,0 +1,66 @@
+-- Dates: what being one says, and the next one.
+-- Assumes nothing.
+use mathlib.Core.Path.{_≡_, refl, sym, _∙_}
+use mathlib.Core.Bool.{Bool, true, false}
+use Prim.Native.Nat.{ℕ, _+_, _≤_, _<_}
+use native.Mathlib.Omega.{arith}
+use lib.Dec.{ltb}
+use borrow.Author.Tests.{ltb-true, ltb-false}
+use Rattle.calendar.specs.Sum.{sumBelow}
+use Rattle.calendar.specs.Gregorian.{monthDays, leapYear, daysOfMonth, isDate, daysBeforeYear, dayNumber, nextDate}
+use Rattle.calendar.specs.Laws.{dayNumberOf, isDateOf}
+use Rattle.calendar.proofs.Tests.{within-from, within-to, within-holds}
+use Rattle.calendar.proofs.Sums.{sum-one-more}
+use Rattle.calendar.proofs.Months.{no-month, month-starts, year-months, before-january}
+use Rattle.calendar.proofs.Years.{year-step}
+
+pub record DateFacts (y m d : ℕ) : Type 0 where
+  pub month : m ≤ 12
+  pub from : 1 ≤ d
+  pub to : d ≤ daysOfMonth y m
+
+pub date-facts : (y m d : ℕ) → isDate y m d ≡ true → DateFacts y m d
+unfolding isDate
+date-facts y m d e = record { month = go (ltb 12 m) refl; from = within-from 1 (daysOfMonth y m) d e; to = within-to 1 (daysOfMonth y m) d e }
+  where
+    go : (t : Bool) → ltb 12 m ≡ t → m ≤ 12
+    go true q =
+        absurd (omega (arith, no-month (leapYear y) m (ltb-true 12 m q), within-from 1 (daysOfMonth y m) d e, within-to 1 (daysOfMonth y m) d e))
+    go false q = ltb-false 12 m q
+
+-- by the day of the month, then the month
+next-cases : (y m d : ℕ) (P : ℕ → ℕ → ℕ → Type 0)
+    → (d < daysOfMonth y m → P y m (d + 1))
+    → (daysOfMonth y m ≤ d → m < 12 → P y (m + 1) 1)
+    → (daysOfMonth y m ≤ d → 12 ≤ m → P (y + 1) 1 1)
+    → let t = nextDate y m d in P (t .year) (t .month) (t .day)
+unfolding nextDate
+next-cases y m d P day month year = go (ltb d (daysOfMonth y m)) refl (ltb m 12) refl
+  where
+    go : (a : Bool) → ltb d (daysOfMonth y m) ≡ a → (b : Bool) → ltb m 12 ≡ b → let t = nextDate y m d in P (t .year) (t .month) (t .day)
+    go true qa b qb = simp qa (day (ltb-true _ _ qa))
+    go false qa true qb = simp (qa, qb) (month (ltb-false _ _ qa) (ltb-true _ _ qb))
+    go false qa false qb = simp (qa, qb) (year (ltb-false _ _ qa) (ltb-false _ _ qb))
+
+pub next-is-date : (y m d : ℕ) → isDate y m d ≡ true → isDateOf (nextDate y m d) ≡ true
+unfolding isDate
+next-is-date y m d e =
+    let f : DateFacts y m d = date-facts y m d e in
+    next-cases y m d (λ y′ m′ d′. isDate y′ m′ d′ ≡ true)
+    (λ h. within-holds 1 (daysOfMonth y m) (d + 1) (omega arith) (omega arith))
+    (λ h k. within-holds 1 (daysOfMonth y (m + 1)) 1 (omega arith) (month-starts (leapYear y) (m + 1) (omega arith) (omega arith)))
+    (λ h k. within-holds 1 (daysOfMonth (y + 1) 1) 1 (omega arith) (month-starts (leapYear (y + 1)) 1 (omega arith) (omega arith)))
+
+pub day-number-steps : (y m d : ℕ) → isDate y m d ≡ true → dayNumberOf (nextDate y m d) ≡ dayNumber y m d + 1
+unfolding dayNumber
+day-number-steps y m d e =
+    let f : DateFacts y m d = date-facts y m d e in
+    next-cases y m d (λ y′ m′ d′. dayNumber y′ m′ d′ ≡ dayNumber y m d + 1)
+    (λ h. omega arith)
+    (λ h k. omega (arith, sum-one-more m (monthDays (leapYear y))))
+    (λ h k.
+    let december : m ≡ 12 = omega (arith, f .month) in
+    omega (arith, year-step y, before-january (leapYear (y + 1)), last december, year-months (leapYear y)))
+  where
+    last : m ≡ 12 → sumBelow 13 (monthDays (leapYear y)) ≡ sumBelow m (monthDays (leapYear y)) + daysOfMonth y m
+    last q = rw q (sum-one-more 12 (monthDays (leapYear y)))

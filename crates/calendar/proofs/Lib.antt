@@ -1,0 +1,8 @@
+pub mod Tests
+pub mod Sums
+pub mod Months
+pub mod Years
+pub mod Dates
+pub mod Weeks
+pub mod DeliveryYears
+pub mod Figures

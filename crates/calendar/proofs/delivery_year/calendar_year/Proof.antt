@@ -1,0 +1,19 @@
+use borrow.Author.Tests.{le-leb, lt-leb}
+use Rattle.calendar.specs.DeliveryYear.{calendarYear}
+use borrow.Author.Needs.{needs}
+use Rattle.calendar.proofs.delivery_year.calendar_year.Statement.{statement}
+use Rattle.calendar.proofs.delivery_year.calendar_year.Tie as tie
+
+add-result : tie.Need-add-result
+add-result c = search needs
+
+returns : tie.Need-returns
+unfolding calendarYear
+returns c = simp (le-leb _ _ (c .if1 .taken))
+
+returns-2 : tie.Need-returns-2
+unfolding calendarYear
+returns-2 c = simp (lt-leb _ _ (c .if1 .left))
+
+pub calendar-year-spec : {M : Type 1} → statement M
+calendar-year-spec = tie.close (tie.spec add-result returns returns-2)

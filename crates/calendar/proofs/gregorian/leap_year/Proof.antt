@@ -1,0 +1,19 @@
+use Rattle.calendar.specs.Gregorian.{leapYear}
+use borrow.Author.Tests.{eq-eqb, ne-eqb}
+use Rattle.calendar.proofs.gregorian.leap_year.Statement.{statement}
+use Rattle.calendar.proofs.gregorian.leap_year.Tie as tie
+
+returns : tie.Need-returns
+unfolding leapYear
+returns c = simp (ne-eqb _ _ (c .if1 .taken))
+
+returns-2 : tie.Need-returns-2
+unfolding leapYear
+returns-2 c = simp (eq-eqb _ _ (c .before .if1 .left), ne-eqb _ _ (c .if2 .taken))
+
+returns-3 : tie.Need-returns-3
+unfolding leapYear
+returns-3 c = simp (eq-eqb _ _ (c .before .if1 .left), eq-eqb _ _ (c .if2 .left))
+
+pub leap-year-spec : {M : Type 1} → statement M
+leap-year-spec = tie.close (tie.spec returns returns-2 returns-3)

@@ -1,0 +1,7 @@
+pub mod Sum
+pub mod Gregorian
+pub mod Week
+pub mod Peak
+pub mod DeliveryYear
+pub mod Laws
+pub mod Figures
