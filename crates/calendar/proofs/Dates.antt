@@ -1,18 +1,18 @@
 -- Dates: what being one says, and the next one.
--- Assumes nothing.
 use mathlib.Core.Path.{_≡_, refl, sym, _∙_}
-use mathlib.Core.Bool.{Bool, true, false}
+use mathlib.Core.Bool.{Bool, true, false, _&&_, _||_}
+use mathlib.Core.Logic.{_⊎_, inl, inr, ⊎-elim}
 use Prim.Native.Nat.{ℕ, _+_, _≤_, _<_}
 use native.Mathlib.Omega.{arith}
-use lib.Dec.{ltb}
-use borrow.Author.Tests.{ltb-true, ltb-false}
+use lib.Dec.{ltb, eqb}
+use borrow.Author.Tests.{ltb-true, ltb-false, eqb-true}
 use Rattle.calendar.specs.Sum.{sumBelow}
-use Rattle.calendar.specs.Gregorian.{monthDays, leapYear, daysOfMonth, isDate, daysBeforeYear, dayNumber, nextDate}
+use Rattle.calendar.specs.Gregorian.{monthDays, leapYear, daysOfMonth, isDate, daysBeforeYear, dayOfYear, dayNumber, Date, isEarlier, nextDate}
 use Rattle.calendar.specs.Laws.{dayNumberOf, isDateOf}
-use Rattle.calendar.proofs.Tests.{within-from, within-to, within-holds}
-use Rattle.calendar.proofs.Sums.{sum-one-more}
+use Rattle.calendar.proofs.Tests.{and-left, and-right, or-cases, within-from, within-to, within-holds}
+use Rattle.calendar.proofs.Sums.{sum-one-more, sum-term}
 use Rattle.calendar.proofs.Months.{no-month, month-starts, year-months, before-january}
-use Rattle.calendar.proofs.Years.{year-step}
+use Rattle.calendar.proofs.Years.{year-step, year-grows}
 
 pub record DateFacts (y m d : ℕ) : Type 0 where
   pub month : m ≤ 12
@@ -52,7 +52,7 @@ next-is-date y m d e =
     (λ h k. within-holds 1 (daysOfMonth (y + 1) 1) 1 (omega arith) (month-starts (leapYear (y + 1)) 1 (omega arith) (omega arith)))
 
 pub day-number-steps : (y m d : ℕ) → isDate y m d ≡ true → dayNumberOf (nextDate y m d) ≡ dayNumber y m d + 1
-unfolding dayNumber
+unfolding dayNumber dayOfYear
 day-number-steps y m d e =
     let f : DateFacts y m d = date-facts y m d e in
     next-cases y m d (λ y′ m′ d′. dayNumber y′ m′ d′ ≡ dayNumber y m d + 1)
@@ -64,3 +64,36 @@ day-number-steps y m d e =
   where
     last : m ≡ 12 → sumBelow 13 (monthDays (leapYear y)) ≡ sumBelow m (monthDays (leapYear y)) + daysOfMonth y m
     last q = rw q (sum-one-more 12 (monthDays (leapYear y)))
+
+-- a date's day is one of its year
+day-in-year : (y m d : ℕ) → isDate y m d ≡ true → dayNumber y m d ≤ daysBeforeYear (y + 1)
+unfolding dayNumber dayOfYear
+day-in-year y m d e =
+    let f : DateFacts y m d = date-facts y m d e in
+    omega (arith, year-step y, year-months (leapYear y), sum-term m 13 (monthDays (leapYear y)) (omega (arith, f .month)))
+
+by-year : (y m d y′ m′ d′ : ℕ) → isDate y m d ≡ true → isDate y′ m′ d′ ≡ true → y < y′ → dayNumber y m d < dayNumber y′ m′ d′
+unfolding dayNumber dayOfYear
+by-year y m d y′ m′ d′ e e′ h =
+    omega (arith, day-in-year y m d e, year-grows (y + 1) y′ (omega arith), date-facts y′ m′ d′ e′ .from)
+
+by-month : (y m d m′ d′ : ℕ) → isDate y m d ≡ true → isDate y m′ d′ ≡ true → m < m′ → dayNumber y m d < dayNumber y m′ d′
+unfolding dayNumber dayOfYear
+by-month y m d m′ d′ e e′ h =
+    omega (arith, date-facts y m d e .to, sum-term m m′ (monthDays (leapYear y)) h, date-facts y m′ d′ e′ .from)
+
+by-day : (y m d d′ : ℕ) → d < d′ → dayNumber y m d < dayNumber y m d′
+unfolding dayNumber dayOfYear
+by-day y m d d′ h = omega arith
+
+pub day-number-orders : (s t : Date) → isDateOf s ≡ true → isDateOf t ≡ true → isEarlier s t ≡ true → dayNumberOf s < dayNumberOf t
+unfolding isEarlier
+day-number-orders s t ds dt e =
+    ⊎-elim (λ q. by-year _ _ _ _ _ _ ds dt (ltb-true _ _ q))
+    (λ q. same-year (eqb-true (s .year) (t .year) (and-left _ _ q)) (or-cases _ _ (and-right (eqb (s .year) (t .year)) _ q))) (or-cases _ _ e)
+  where
+    same-year : s .year ≡ t .year → (ltb (s .month) (t .month) ≡ true) ⊎ ((eqb (s .month) (t .month) && ltb (s .day) (t .day)) ≡ true) → dayNumberOf s < dayNumberOf t
+    same-year y (inl q) = rw (← y) (by-month _ _ _ _ _ ds (rw (← y) at dt) (ltb-true _ _ q))
+    same-year y (inr q) =
+        let m : s .month ≡ t .month = eqb-true _ _ (and-left _ _ q) in
+        rw (← y, ← m) (by-day _ _ _ _ (ltb-true _ _ (and-right (eqb (s .month) (t .month)) _ q)))

@@ -1,24 +1,23 @@
--- The day of the delivery year, by the months from June and from January.
--- Assumes nothing.
-use mathlib.Core.Path.{_≡_, refl, sym, _∙_}
-use mathlib.Core.Bool.{Bool, true, false, cond}
+-- The day of the delivery year, by the day of the calendar year.
+use mathlib.Core.Path.{_≡_, refl}
+use mathlib.Core.Bool.{Bool, true, false}
 use Prim.Native.Nat.{ℕ, _+_, _-_, _≤_, _<_}
 use native.Mathlib.Omega.{arith}
 use lib.Dec.{leb}
 use borrow.Author.Tests.{leb-true, leb-false, le-leb, lt-leb}
 use Rattle.calendar.specs.Sum.{sumBelow}
-use Rattle.calendar.specs.Gregorian.{within, monthDays, leapYear, isDate, daysBeforeYear, dayNumber}
+use Rattle.calendar.specs.Gregorian.{within, monthDays, leapYear, isDate, dayOfYear, dayNumber}
 use Rattle.calendar.specs.DeliveryYear.{deliveryDays, calendarYear, isDeliveryDate, deliveryDay}
-use Rattle.calendar.proofs.Sums.{sum-one-more, sum-grows, sum-term}
-use Rattle.calendar.proofs.Months.{days-small, before-small, yearDays, year-months, before-june}
+use Rattle.calendar.proofs.Sums.{sum-grows, sum-term}
+use Rattle.calendar.proofs.Months.{year-small, year-months, before-june}
 use Rattle.calendar.proofs.Years.{year-step}
 use Rattle.calendar.proofs.Dates.{DateFacts, date-facts}
 
-pub from-june : (y m : ℕ) → 6 ≤ m → calendarYear y m ≡ y
+from-june : (y m : ℕ) → 6 ≤ m → calendarYear y m ≡ y
 unfolding calendarYear
 from-june y m h = simp (le-leb 6 m h)
 
-pub to-may : (y m : ℕ) → m < 6 → calendarYear y m ≡ y + 1
+to-may : (y m : ℕ) → m < 6 → calendarYear y m ≡ y + 1
 unfolding calendarYear
 to-may y m h = simp (lt-leb 6 m h)
 
@@ -29,75 +28,63 @@ calendar-year-small y m = go (leb 6 m) refl
     go true q = omega (arith, from-june y m (leb-true 6 m q))
     go false q = omega (arith, to-may y m (leb-false 6 m q))
 
-pub delivery-facts : (y m d : ℕ) → isDeliveryDate y m d ≡ true → DateFacts (calendarYear y m) m d
-unfolding isDeliveryDate
-delivery-facts y m d e = date-facts (calendarYear y m) m d e
-
--- a date from June to December: its day, and what bounds the sums
-pub record FromJune (y m d : ℕ) : Type 0 where
-  pub date : DateFacts y m d
-  pub days : monthDays (leapYear y) m ≤ 31
-  pub later : sumBelow 6 (monthDays (leapYear y)) ≤ sumBelow m (monthDays (leapYear y))
-  pub before : sumBelow m (monthDays (leapYear y)) ≤ 366
-  pub day : deliveryDay y m d ≡ sumBelow m (monthDays (leapYear y)) - sumBelow 6 (monthDays (leapYear y)) + d - 1
-
-pub day-from-june : (y m d : ℕ) → isDeliveryDate y m d ≡ true → 6 ≤ m → FromJune y m d
-unfolding deliveryDay dayNumber
-day-from-june y m d e h =
-    let f : DateFacts y m d = rw (from-june y m h) at (delivery-facts y m d e) in
-    record {
-      date = f;
-      days = days-small (leapYear y) m (f .month);
-      later = sum-grows 6 m (monthDays (leapYear y)) h;
-      before = before-small (leapYear y) m (f .month);
-      day = simp (e, from-june y m h) (omega (arith, sum-grows 6 m (monthDays (leapYear y)) h, f .from));
-    }
-
--- a date from January to May: the 214 days from June to December come before its year
-pub record ToMay (y m d : ℕ) : Type 0 where
-  pub date : DateFacts (y + 1) m d
-  pub days : monthDays (leapYear (y + 1)) m ≤ 31
-  pub before : sumBelow m (monthDays (leapYear (y + 1))) ≤ 366
-  pub day : deliveryDay y m d ≡ 214 + sumBelow m (monthDays (leapYear (y + 1))) + d - 1
-
-pub day-to-may : (y m d : ℕ) → isDeliveryDate y m d ≡ true → m < 6 → ToMay y m d
-unfolding deliveryDay dayNumber
-day-to-may y m d e h =
-    let f : DateFacts (y + 1) m d = rw (to-may y m h) at (delivery-facts y m d e) in
-    record {
-      date = f;
-      days = days-small (leapYear (y + 1)) m (f .month);
-      before = before-small (leapYear (y + 1)) m (f .month);
-      day = simp (e, to-may y m h) (omega (arith, year-step y, before-june (leapYear y), f .from));
-    }
-
 pub no-date : (y m d : ℕ) → isDeliveryDate y m d ≡ false → deliveryDay y m d ≡ 0
 unfolding deliveryDay
 no-date y m d e = simp e
+
+-- a date from June to December
+pub record FromJune (y m d : ℕ) : Type 0 where
+  pub date : DateFacts y m d
+  pub later : dayOfYear y 6 1 ≤ dayOfYear y m d
+  pub day : deliveryDay y m d ≡ dayOfYear y m d - dayOfYear y 6 1
+
+june-day : (y m d : ℕ) → isDeliveryDate y m d ≡ true → 6 ≤ m → deliveryDay y m d ≡ dayOfYear y m d - dayOfYear y 6 1
+unfolding deliveryDay dayNumber
+june-day y m d e h = simp (e, from-june y m h) (omega arith)
+
+pub day-from-june : (y m d : ℕ) → isDeliveryDate y m d ≡ true → 6 ≤ m → FromJune y m d
+unfolding isDeliveryDate dayOfYear
+day-from-june y m d e h =
+    let f : DateFacts y m d = date-facts y m d (rw (from-june y m h) at e) in
+    record { date = f; later = omega (arith, sum-grows 6 m (monthDays (leapYear y)) h, f .from); day = june-day y m d e h }
+
+-- a date from January to May: the 214 days from June to December lie before its year
+pub record ToMay (y m d : ℕ) : Type 0 where
+  pub date : DateFacts (y + 1) m d
+  pub day : deliveryDay y m d ≡ 214 + dayOfYear (y + 1) m d - 1
+
+may-day : (y m d : ℕ) → isDeliveryDate y m d ≡ true → m < 6 → 1 ≤ d → deliveryDay y m d ≡ 214 + dayOfYear (y + 1) m d - 1
+unfolding deliveryDay dayNumber dayOfYear
+may-day y m d e h from = simp (e, to-may y m h) (omega (arith, year-step y, before-june (leapYear y)))
+
+pub day-to-may : (y m d : ℕ) → isDeliveryDate y m d ≡ true → m < 6 → ToMay y m d
+unfolding isDeliveryDate
+day-to-may y m d e h =
+    let f : DateFacts (y + 1) m d = date-facts (y + 1) m d (rw (to-may y m h) at e) in
+    record { date = f; day = may-day y m d e h (f .from) }
 
 june-first : (y : ℕ) → isDeliveryDate y 6 1 ≡ true
 unfolding isDeliveryDate calendarYear isDate within monthDays
 june-first y = refl
 
-may-days : (leap : Bool) → monthDays leap 5 ≡ 31
-unfolding monthDays within
-may-days leap = refl
-
 may-last : (y : ℕ) → isDeliveryDate y 5 31 ≡ true
 unfolding isDeliveryDate calendarYear isDate within monthDays
 may-last y = refl
 
+may-days : (leap : Bool) → sumBelow 6 (monthDays leap) ≡ sumBelow 5 (monthDays leap) + 31
+unfolding sumBelow monthDays within
+may-days leap = refl
+
 pub first-day : (y : ℕ) → deliveryDay y 6 1 ≡ 0
-first-day y = omega (arith, day-from-june y 6 1 (june-first y) (omega arith))
+first-day y = omega (arith, june-day y 6 1 (june-first y) (omega arith))
 
 pub last-day : (y : ℕ) → deliveryDay y 5 31 + 1 ≡ deliveryDays y
-unfolding deliveryDays
+unfolding deliveryDays dayOfYear
 last-day y =
-    omega
-    (arith, day-to-may y 5 31 (may-last y) (omega arith), sum-one-more 5 (monthDays (leapYear (y + 1))), may-days (leapYear (y + 1)), before-june (leapYear (y + 1)))
+    omega (arith, may-day y 5 31 (may-last y) (omega arith) (omega arith), may-days (leapYear (y + 1)), before-june (leapYear (y + 1)))
 
 pub day-below : (y m d : ℕ) → deliveryDay y m d < deliveryDays y
-unfolding deliveryDays
+unfolding deliveryDays dayOfYear
 day-below y m d = go (isDeliveryDate y m d) refl (leb 6 m) refl
   where
     go : (a : Bool) → isDeliveryDate y m d ≡ a → (b : Bool) → leb 6 m ≡ b → deliveryDay y m d < deliveryDays y
@@ -109,3 +96,7 @@ day-below y m d = go (isDeliveryDate y m d) refl (leb 6 m) refl
     go true qa false qb =
         let f : ToMay y m d = day-to-may y m d qa (leb-false 6 m qb) in
         omega (arith, sum-term m 6 (monthDays (leapYear (y + 1))) (leb-false 6 m qb), before-june (leapYear (y + 1)))
+
+pub day-small : (y m d : ℕ) → deliveryDay y m d < 366
+unfolding deliveryDays
+day-small y m d = omega (arith, day-below y m d, year-small (leapYear (y + 1)))

@@ -1,7 +1,7 @@
--- What a test that passed says: of a conjunction, of a range, and of all numbers below n by one test that antt computes.
--- Assumes nothing.
+-- What a test that passed says: of its parts, of a range, and of all numbers below n by one test that antt computes.
 use mathlib.Core.Path.{_≡_, refl, sym}
-use mathlib.Core.Bool.{Bool, true, false, false≢true, _&&_}
+use mathlib.Core.Bool.{Bool, true, false, false≢true, _&&_, _||_}
+use mathlib.Core.Logic.{_⊎_, inl, inr}
 use Prim.Native.Nat.{ℕ, zero, suc, _≤_, _<_}
 use native.Mathlib.Nat.{not-suc-le-zero}
 use native.Mathlib.Omega.{arith}
@@ -16,6 +16,10 @@ and-left false b e = e
 pub and-right : (a b : Bool) → (a && b) ≡ true → b ≡ true
 and-right true b e = e
 and-right false b e = absurd (false≢true e)
+
+pub or-cases : (a b : Bool) → (a || b) ≡ true → (a ≡ true) ⊎ (b ≡ true)
+or-cases true b e = inl refl
+or-cases false b e = inr e
 
 pub within-from : (first last x : ℕ) → within first last x ≡ true → first ≤ x
 unfolding within

@@ -1,17 +1,17 @@
 -- The third Monday, and the months of the peak periods.
--- Assumes nothing.
 use mathlib.Core.Path.{_≡_, refl}
-use mathlib.Core.Bool.{true, _||_}
+use mathlib.Core.Bool.{true}
+use mathlib.Core.Logic.{⊎-elim}
 use Prim.Native.Nat.{ℕ, _≤_}
 use native.Mathlib.Omega.{arith}
 use Rattle.calendar.specs.Sum.{sumBelow}
-use Rattle.calendar.specs.Gregorian.{within, leapYear, monthDays, daysBeforeYear, dayNumber}
+use Rattle.calendar.specs.Gregorian.{within, leapYear, monthDays, daysBeforeYear, dayOfYear, dayNumber}
 use Rattle.calendar.specs.Week.{monday, tuesday, weekday, firstMonday, thirdMonday}
-use Rattle.calendar.specs.Peak.{summerPeak, winterPeak}
-use Rattle.calendar.proofs.Tests.{and-left, within-to}
+use Rattle.calendar.specs.Peak.{summerPeak, winterPeak, peakPeriod}
+use Rattle.calendar.proofs.Tests.{and-left, or-cases, within-to}
 
 pub known-weekday : weekday 2011 7 5 ≡ tuesday
-unfolding sumBelow within leapYear monthDays daysBeforeYear dayNumber weekday
+unfolding sumBelow within leapYear monthDays daysBeforeYear dayOfYear dayNumber weekday
 known-weekday = refl
 
 module _ (y m : ℕ) where
@@ -24,17 +24,16 @@ module _ (y m : ℕ) where
   third-monday-to = omega arith
 
   pub third-monday-is : weekday y m (thirdMonday y m) ≡ monday
-  unfolding thirdMonday firstMonday weekday dayNumber
+  unfolding thirdMonday firstMonday weekday dayNumber dayOfYear
   third-monday-is = omega arith
 
   pub third-monday-only : (d : ℕ) → 15 ≤ d → d ≤ 21 → weekday y m d ≡ monday → d ≡ thirdMonday y m
-  unfolding thirdMonday firstMonday weekday dayNumber
+  unfolding thirdMonday firstMonday weekday dayNumber dayOfYear
   third-monday-only d from to is = omega arith
 
-pub summer-month : (m h : ℕ) → summerPeak m h ≡ true → m ≤ 12
-unfolding summerPeak
-summer-month m h e = omega (arith, within-to 6 8 m (and-left (within 6 8 m) (within 15 19 h) e))
-
-pub winter-month : (m h : ℕ) → winterPeak m h ≡ true → m ≤ 12
-unfolding winterPeak
-winter-month m h e = omega (arith, within-to 1 2 m (and-left (within 1 2 m) (within 8 9 h || within 19 20 h) e))
+-- the months of the peak periods are months
+pub peak-month : (m h : ℕ) → peakPeriod m h ≡ true → m ≤ 12
+unfolding peakPeriod summerPeak winterPeak
+peak-month m h e =
+    ⊎-elim (λ s. omega (arith, within-to 6 8 m (and-left _ _ s))) (λ w. omega (arith, within-to 1 2 m (and-left _ _ w)))
+    (or-cases (summerPeak m h) (winterPeak m h) e)

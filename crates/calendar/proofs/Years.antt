@@ -1,15 +1,16 @@
--- The count of days before a year grows by the year's days, 365 or 366.
--- Assumes nothing.
-use mathlib.Core.Path.{_≡_, refl, sym}
+-- The closed form for the days before a year is the sum of the years' days, 365 or 366.
+use mathlib.Core.Path.{_≡_, refl}
 use mathlib.Core.Bool.{Bool, true, false, cond, not, _&&_, _||_}
-use Prim.Native.Nat.{ℕ, _+_, _-_, _*_, _/_, _%_, _^_, _≤_, _<_}
+use Prim.Native.Nat.{ℕ, zero, suc, _+_, _-_, _*_, _/_, _%_, _≤_, _<_}
 use native.Mathlib.Nat.{div-eq-of-lt-le, div-add-mod', mod-lt, add-mul, one-mul}
+use native.Mathlib.Numerals.{add-one}
 use native.Mathlib.Omega.{arith}
 use lib.Dec.{eqb}
-use borrow.Author.Tests.{eqb-true, eqb-false, eq-eqb, ne-eqb}
+use borrow.Author.Tests.{eqb-true, eqb-false}
 use Rattle.calendar.specs.Sum.{sumBelow}
-use Rattle.calendar.specs.Gregorian.{within, monthDays, leapYear, daysBeforeYear, dayNumber}
-use Rattle.calendar.proofs.Months.{yearDays, before-small}
+use Rattle.calendar.specs.Gregorian.{leapYear, daysBeforeYear}
+use Rattle.calendar.proofs.Sums.{sum-grows}
+use Rattle.calendar.proofs.Months.{yearDays}
 
 quotient : (n m k : ℕ) → k * n ≤ m → m < k * n + n → m / n ≡ k
 quotient n m k from to = div-eq-of-lt-le n from (rw (add-mul, one-mul) to)
@@ -47,7 +48,10 @@ year-step y =
     go p q r le true qa true qb false qc = omega arith
     go p q r le true qa true qb true qc = omega arith
 
--- 64 bits hold the number of a day
-pub day-number-small : (y m d : ℕ) → y ≤ 2 ^ 32 → m ≤ 12 → d < 2 ^ 32 → dayNumber y m d < 2 ^ 41
-unfolding dayNumber daysBeforeYear
-day-number-small y m d hy hm hd = omega (arith, before-small (leapYear y) m hm)
+years-add-up : (y : ℕ) → daysBeforeYear y ≡ sumBelow y (λ k. yearDays (leapYear k))
+unfolding daysBeforeYear sumBelow
+years-add-up zero = refl
+years-add-up (suc y) = rw (← add-one y, year-step y, years-add-up y)
+
+pub year-grows : (a b : ℕ) → a ≤ b → daysBeforeYear a ≤ daysBeforeYear b
+year-grows a b h = rw (years-add-up a, years-add-up b) (sum-grows a b (λ k. yearDays (leapYear k)) h)

@@ -1,6 +1,5 @@
 -- The delivery year: year y runs from 1 June y to 31 May y + 1.
 -- 01, Records.
--- Assumes nothing.
 use Prim.Native.Nat.{ℕ, _+_, _-_}
 use mathlib.Core.Bool.{Bool, cond}
 use lib.Dec.{leb}

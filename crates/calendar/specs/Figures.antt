@@ -1,5 +1,4 @@
 -- Figures a to d of document 01 ("Figures to be proved in a table").
--- Assumes nothing.
 use mathlib.Core.Path.{_≡_}
 use mathlib.Core.List.{List, [], _∷_}
 use Prim.Native.Nat.{ℕ}

@@ -1,6 +1,5 @@
 -- The Gregorian calendar: leap years, the days of a month, which dates there are, and the number of each day.
 -- 01, Records ("a Gregorian leap year") and Places of refusal, row 6 ("a date not in the calendar").
--- Assumes nothing.
 use Prim.Native.Nat.{ℕ, _+_, _-_, _*_, _/_, _%_}
 use mathlib.Core.Bool.{Bool, not, cond, _&&_, _||_}
 use lib.Dec.{leb, ltb, eqb}
@@ -36,14 +35,24 @@ daysBeforeYear y = 365 * y + (y + 3) / 4 - (y + 99) / 100 + (y + 399) / 400
 abbrev pub daysBeforeMonth : ℕ → ℕ → ℕ
 daysBeforeMonth y m = sumBelow m (monthDays (leapYear y))
 
--- The number of a day. 1 January of year 0 is day 1; that each next date has the next number is a law (Laws.antt).
+-- the day of the year: 1 January is day 1
+unfoldable pub dayOfYear : ℕ → ℕ → ℕ → ℕ
+dayOfYear y m d = daysBeforeMonth y m + d
+
+-- The number of a day: 1 January of year 0 is day 1. That each next date has the next number is a law (Laws.antt).
 unfoldable pub dayNumber : ℕ → ℕ → ℕ → ℕ
-dayNumber y m d = daysBeforeYear y + daysBeforeMonth y m + d
+dayNumber y m d = daysBeforeYear y + dayOfYear y m d
 
 pub record Date : Type 0 where
   pub year : ℕ
   pub month : ℕ
   pub day : ℕ
+
+-- one date comes before another: by year, then month, then day
+unfoldable pub isEarlier : Date → Date → Bool
+isEarlier s t =
+    ltb (s .year) (t .year)
+    || eqb (s .year) (t .year) && (ltb (s .month) (t .month) || eqb (s .month) (t .month) && ltb (s .day) (t .day))
 
 -- the date after day d of month m of year y
 unfoldable pub nextDate : ℕ → ℕ → ℕ → Date

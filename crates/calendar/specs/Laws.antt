@@ -1,9 +1,8 @@
 -- What makes the formulas of this folder the calendar.
--- Assumes nothing.
 use mathlib.Core.Path.{_≡_}
 use mathlib.Core.Bool.{Bool, true}
 use Prim.Native.Nat.{ℕ, _+_, _≤_, _<_}
-use Rattle.calendar.specs.Gregorian.{Date, isDate, dayNumber, nextDate}
+use Rattle.calendar.specs.Gregorian.{Date, isDate, dayNumber, isEarlier, nextDate}
 use Rattle.calendar.specs.Week.{monday, tuesday, weekday, thirdMonday}
 use Rattle.calendar.specs.DeliveryYear.{deliveryDays, deliveryDay}
 
@@ -17,6 +16,8 @@ pub record CalendarLaws : Type 0 where
   -- the next date is a date, and its number is the next number: over month ends, year ends and leap days, in all years
   pub next-is-date : (y m d : ℕ) → isDate y m d ≡ true → isDateOf (nextDate y m d) ≡ true
   pub day-number-steps : (y m d : ℕ) → isDate y m d ≡ true → dayNumberOf (nextDate y m d) ≡ dayNumber y m d + 1
+  -- dates in their order have numbers in their order, so that no date lies between one and the next
+  pub day-number-orders : (s t : Date) → isDateOf s ≡ true → isDateOf t ≡ true → isEarlier s t ≡ true → dayNumberOf s < dayNumberOf t
   -- a known weekday (01, figure a): 5 July 2011 is a Tuesday
   pub known-weekday : weekday 2011 7 5 ≡ tuesday
   -- the third Monday is the only Monday from 15 to 21

@@ -1,5 +1,4 @@
 -- Finite sums, the form in which every sum of the book is defined.
--- Assumes nothing.
 use Prim.Native.Nat.{ℕ, zero, suc, _+_}
 
 -- f 0 + f 1 + .. + f (n - 1)

@@ -1,5 +1,5 @@
 // The delivery year: from 1 June of year y to 31 May of y + 1. For the book.
-use crate::gregorian::days_before_month;
+use crate::gregorian::day_of_year;
 use crate::gregorian::is_date;
 use crate::gregorian::leap_year;
 use crate::peak::is_peak;
@@ -27,23 +27,23 @@ pub fn is_delivery_date(y: u32, month: u32, day: u32) -> bool
     is_date(calendar_year(y, month), month as u64, day as u64)
 }
 
-// From 1 June to 31 December.
+// The days from 1 June to 31 December.
 const JUNE_TO_DECEMBER: u64 = 214;
 
-// The day of delivery year y; 0 also where (month, day) is no date of it.
+// The day of delivery year y, where day 0 is 1 June; 0 also where (month, day) is no date of it.
 pub fn delivery_day(y: u32, month: u32, day: u32) -> u32
     ensures { λ r. ⌜ r ≡ deliveryDay y month day ⌝ }
 {
-    if !is_delivery_date(y, month, day) {
-        return 0;
+    if is_delivery_date(y, month, day) {
+        let year = y as u64;
+        let m = month as u64;
+        let d = day as u64;
+        if 6 <= month {
+            return (day_of_year(year, m, d) - day_of_year(year, 6, 1)) as u32;
+        }
+        return (JUNE_TO_DECEMBER + day_of_year(year + 1, m, d) - 1) as u32;
     }
-    let year = y as u64;
-    let m = month as u64;
-    let d = day as u64;
-    if 6 <= month {
-        return (days_before_month(year, m) - days_before_month(year, 6) + d - 1) as u32;
-    }
-    (JUNE_TO_DECEMBER + days_before_month(year + 1, m) + d - 1) as u32
+    0
 }
 
 // Whether the hour ending hour_ending of (month, day) of delivery year y is peak.

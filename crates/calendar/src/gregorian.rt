@@ -1,7 +1,9 @@
-// The Gregorian calendar. Years are at most 2^32 and days below 2^32 here, so that 64 bits hold every day number.
+// The Gregorian calendar. Years are at most 2^32 and days below 2^32 where a sum must fit 64 bits.
 ghost use mathlib.Core.Path.{_≡_};
+ghost use mathlib.Core.Bool.{cond, _&&_};
 ghost use Prim.Native.Nat.{_≤_, _<_, _^_};
-ghost use Rattle.calendar.specs.Gregorian.{within, leapYear, daysOfMonth, isDate, daysBeforeYear, daysBeforeMonth, dayNumber};
+ghost use lib.Dec.{ltb};
+ghost use Rattle.calendar.specs.Gregorian.{within, leapYear, daysOfMonth, isDate, daysBeforeYear, daysBeforeMonth, dayOfYear, dayNumber};
 
 pub fn within(first: u64, last: u64, x: u64) -> bool
     ensures { λ r. ⌜ r ≡ within first last x ⌝ }
@@ -27,7 +29,7 @@ pub fn leap_year(year: u64) -> bool
 // The days of each month, 1 to 12, in a common year.
 const DAYS: [u64; 13] = [0, 31, 28, 31, 30, 31, 30, 31, 31, 30, 31, 30, 31];
 
-pub fn days_of_month(year: u64, month: u64) -> u64
+fn days_of_month(year: u64, month: u64) -> u64
     ensures { λ r. ⌜ r ≡ daysOfMonth year month ⌝ }
 {
     if month == 2 {
@@ -48,33 +50,46 @@ pub fn is_date(year: u64, month: u64, day: u64) -> bool
     within(1, days_of_month(year, month), day)
 }
 
-pub fn days_before_year(year: u64) -> u64
+fn days_before_year(year: u64) -> u64
     requires { ⌜ year ≤ 2 ^ 32 ⌝ }
-    ensures { λ r. ⌜ r ≡ daysBeforeYear year ⌝ }
+    ensures { λ r. ⌜ (r ≡ daysBeforeYear year) × (r < 2 ^ 41) ⌝ }
 {
     365 * year + (year + 3) / 4 - (year + 99) / 100 + (year + 399) / 400
 }
 
-// The days of a common year before each month, 1 to 12.
-const BEFORE: [u64; 13] = [0, 0, 31, 59, 90, 120, 151, 181, 212, 243, 273, 304, 334];
-
-pub fn days_before_month(year: u64, month: u64) -> u64
-    requires { ⌜ month ≤ 12 ⌝ }
-    ensures { λ r. ⌜ r ≡ daysBeforeMonth year month ⌝ }
+// The day that a leap year has more, from March on.
+fn leap_day(year: u64, month: u64) -> u64
+    ensures { λ r. ⌜ r ≡ cond (leapYear year && ltb 2 month) 1 0 ⌝ }
 {
-    let common = BEFORE[month as usize];
     if month <= 2 {
-        return common;
+        return 0;
     }
     if leap_year(year) {
-        return common + 1;
+        return 1;
     }
-    common
+    0
+}
+
+// The days before each month, 1 to 12, in a common year.
+const BEFORE: [u64; 13] = [0, 0, 31, 59, 90, 120, 151, 181, 212, 243, 273, 304, 334];
+
+fn days_before_month(year: u64, month: u64) -> u64
+    requires { ⌜ month ≤ 12 ⌝ }
+    ensures { λ r. ⌜ (r ≡ daysBeforeMonth year month) × (r ≤ 366) ⌝ }
+{
+    BEFORE[month as usize] + leap_day(year, month)
+}
+
+pub fn day_of_year(year: u64, month: u64, day: u64) -> u64
+    requires { ⌜ (month ≤ 12) × (day < 2 ^ 32) ⌝ }
+    ensures { λ r. ⌜ (r ≡ dayOfYear year month day) × (r < 2 ^ 33) ⌝ }
+{
+    days_before_month(year, month) + day
 }
 
 pub fn day_number(year: u64, month: u64, day: u64) -> u64
     requires { ⌜ (year ≤ 2 ^ 32) × (month ≤ 12) × (day < 2 ^ 32) ⌝ }
-    ensures { λ r. ⌜ r ≡ dayNumber year month day ⌝ }
+    ensures { λ r. ⌜ (r ≡ dayNumber year month day) × (r < 2 ^ 42) ⌝ }
 {
-    days_before_year(year) + days_before_month(year, month) + day
+    days_before_year(year) + day_of_year(year, month, day)
 }

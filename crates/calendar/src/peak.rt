@@ -1,10 +1,11 @@
-// Peak hours.
+// Peak hours, and the peak question.
+use crate::gregorian::is_date;
 use crate::gregorian::within;
 use crate::week::is_holiday;
 use crate::week::weekday;
 ghost use mathlib.Core.Path.{_≡_};
 ghost use Prim.Native.Nat.{_≤_, _<_, _^_};
-ghost use Rattle.calendar.specs.Peak.{summerPeak, winterPeak, peakDay, peakHour};
+ghost use Rattle.calendar.specs.Peak.{summerPeak, winterPeak, peakPeriod, peakDay, peakHour, isAnswered, peakAnswer};
 
 const SATURDAY: u64 = 5;
 
@@ -29,7 +30,15 @@ fn is_winter_peak(month: u64, hour_ending: u64) -> bool
     false
 }
 
-// The day's part of the rule, for a month of a peak period.
+fn in_peak_period(month: u64, hour_ending: u64) -> bool
+    ensures { λ r. ⌜ r ≡ peakPeriod month «hour_ending» ⌝ }
+{
+    if is_summer_peak(month, hour_ending) {
+        return true;
+    }
+    is_winter_peak(month, hour_ending)
+}
+
 fn is_peak_day(year: u64, month: u64, day: u64) -> bool
     requires { ⌜ (year ≤ 2 ^ 32) × (month ≤ 12) × (day < 2 ^ 32) ⌝ }
     ensures { λ r. ⌜ r ≡ peakDay year month day ⌝ }
@@ -40,16 +49,42 @@ fn is_peak_day(year: u64, month: u64, day: u64) -> bool
     !is_holiday(year, month, day)
 }
 
-// Month and hour are tested first: most hours are decided there.
+// The period is tested first: most hours are decided there, without a weekday.
 pub fn is_peak(year: u64, month: u64, day: u64, hour_ending: u64) -> bool
     requires { ⌜ (year ≤ 2 ^ 32) × (day < 2 ^ 32) ⌝ }
     ensures { λ r. ⌜ r ≡ peakHour year month day «hour_ending» ⌝ }
 {
-    if is_summer_peak(month, hour_ending) {
-        return is_peak_day(year, month, day);
-    }
-    if is_winter_peak(month, hour_ending) {
+    if in_peak_period(month, hour_ending) {
         return is_peak_day(year, month, day);
     }
     false
+}
+
+fn is_answered(year: u64, month: u64, day: u64, hour_ending: u64) -> bool
+    ensures { λ r. ⌜ r ≡ isAnswered year month day «hour_ending» ⌝ }
+{
+    if is_date(year, month, day) {
+        if within(1, 24, hour_ending) {
+            return within(2007, 2100, year);
+        }
+    }
+    false
+}
+
+// The peak question, for the controllers' C firmware (include/peak_hour.h).
+#[no_mangle]
+pub extern "C" fn peak_hour(year: u32, month: u32, day: u32, hour_ending: u32) -> u32
+    ensures { λ r. ⌜ r ≡ peakAnswer year month day «hour_ending» ⌝ }
+{
+    let y = year as u64;
+    let m = month as u64;
+    let d = day as u64;
+    let h = hour_ending as u64;
+    if is_answered(y, m, d, h) {
+        if is_peak(y, m, d, h) {
+            return 1;
+        }
+        return 0;
+    }
+    2
 }

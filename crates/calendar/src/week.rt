@@ -6,12 +6,12 @@ ghost use Rattle.calendar.specs.Week.{weekday, thirdMonday, isHoliday};
 
 pub fn weekday(year: u64, month: u64, day: u64) -> u64
     requires { ⌜ (year ≤ 2 ^ 32) × (month ≤ 12) × (day < 2 ^ 32) ⌝ }
-    ensures { λ r. ⌜ r ≡ weekday year month day ⌝ }
+    ensures { λ r. ⌜ (r ≡ weekday year month day) × (r < 7) ⌝ }
 {
     (day_number(year, month, day) + 4) % 7
 }
 
-pub fn third_monday(year: u64, month: u64) -> u64
+fn third_monday(year: u64, month: u64) -> u64
     requires { ⌜ (year ≤ 2 ^ 32) × (month ≤ 12) ⌝ }
     ensures { λ r. ⌜ r ≡ thirdMonday year month ⌝ }
 {

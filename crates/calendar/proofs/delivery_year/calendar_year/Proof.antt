@@ -1,6 +1,6 @@
+use borrow.Author.Needs.{needs}
 use borrow.Author.Tests.{le-leb, lt-leb}
 use Rattle.calendar.specs.DeliveryYear.{calendarYear}
-use borrow.Author.Needs.{needs}
 use Rattle.calendar.proofs.delivery_year.calendar_year.Statement.{statement}
 use Rattle.calendar.proofs.delivery_year.calendar_year.Tie as tie
 

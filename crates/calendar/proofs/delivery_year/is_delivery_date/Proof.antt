@@ -1,5 +1,5 @@
-use Rattle.calendar.specs.DeliveryYear.{isDeliveryDate}
 use borrow.Author.Needs.{needs}
+use Rattle.calendar.specs.DeliveryYear.{isDeliveryDate}
 use Rattle.calendar.proofs.delivery_year.is_delivery_date.Statement.{statement}
 use Rattle.calendar.proofs.delivery_year.is_delivery_date.Tie as tie
 

@@ -1,7 +1,7 @@
-use Rattle.calendar.proofs.DeliveryYears.{calendar-year-small}
 use native.Mathlib.Omega.{arith}
-use Rattle.calendar.specs.DeliveryYear.{isDeliveryPeak}
 use borrow.Author.Needs.{needs}
+use Rattle.calendar.specs.DeliveryYear.{isDeliveryPeak}
+use Rattle.calendar.proofs.DeliveryYears.{calendar-year-small}
 use Rattle.calendar.proofs.delivery_year.is_delivery_peak.Statement.{statement}
 use Rattle.calendar.proofs.delivery_year.is_delivery_peak.Tie as tie
 

@@ -1,44 +1,36 @@
-use Rattle.calendar.specs.Gregorian.{leapYear}
+use mathlib.Core.Path.{_≡_}
+use Prim.Native.Nat.{_+_, _≤_}
 use native.Mathlib.Omega.{arith}
-use Rattle.calendar.proofs.Months.{before, before-march, before-common, before-leap, before-small}
-use mathlib.Core.Path.{sym, _∙_}
+use lib.ListN.{getD}
 use borrow.Author.Needs.{needs}
+use Rattle.calendar.specs.Gregorian.{leapYear, daysBeforeMonth}
+use Rattle.calendar.proofs.Months.{before, before-at, before-small}
 use Rattle.calendar.proofs.gregorian.days_before_month.Statement.{statement}
 use Rattle.calendar.proofs.gregorian.days_before_month.Tie as tie
 
-mul-common : tie.Need-mul-common
-mul-common c = search needs
+mul-result : tie.Need-mul-result
+mul-result c = search needs
 
-array-read-common : tie.Need-array-read-common
-array-read-common c = search needs
+array-read-result : tie.Need-array-read-result
+array-read-result c = search needs
 
-returns : tie.Need-returns
-unfolding before
-returns c = before-march _ (c .before .args .month) (c .if1 .taken)
+leap-day-requires : tie.Need-leap-day-requires
+leap-day-requires c κs = search needs
 
-leap-year-requires : tie.Need-leap-year-requires
-leap-year-requires c κs = search needs
+right : (c : tie.After-leap-day) → getD before (c .before .args .month) 0 + c .leap-day .result ≡ daysBeforeMonth (c .before .args .year) (c .before .args .month)
+right c = rw (c .leap-day .ensures) (before-at _ (c .before .args .month) (c .before .pre))
+
+small : (c : tie.After-leap-day) → daysBeforeMonth (c .before .args .year) (c .before .args .month) ≤ 366
+small c = before-small _ (c .before .args .month) (c .before .pre)
 
 add-result : tie.Need-add-result
 unfolding before
-add-result c = omega (arith, before-leap _ (c .before .before .before .args .month) (c .before .before .before .pre) (c .before .before .if1 .left) (sym (c .before .leap-year .ensures) ∙ c .if2 .taken), before-small (leapYear (c .before .before .before .args .year)) (c .before .before .before .args .month) (c .before .before .before .pre))
+add-result c = omega (arith, right c, small c)
 
-returns-2 : tie.Need-returns-2
+returns : tie.Need-returns
 unfolding before
-returns-2 c = before-leap _ (c .before .before .before .args .month) (c .before .before .before .pre) (c .before .before .if1 .left) (sym (c .before .leap-year .ensures) ∙ c .if2 .taken)
-
-returns-3 : tie.Need-returns-3
-unfolding before
-returns-3 c = before-common _ (c .before .before .before .args .month) (c .before .before .before .pre) (sym (c .before .leap-year .ensures) ∙ c .if2 .left)
+returns c = (right c, omega (arith, right c, small c))
 
 pub days-before-month-spec : {M : Type 1} → statement M
 days-before-month-spec =
-    tie.close
-    (tie.spec
-    mul-common
-    array-read-common
-    returns
-    leap-year-requires
-    add-result
-    returns-2
-    returns-3)
+    tie.close (tie.spec mul-result array-read-result leap-day-requires add-result returns)

@@ -1,6 +1,7 @@
-use Rattle.calendar.specs.Gregorian.{daysBeforeYear}
 use mathlib.Core.Path.{refl}
+use native.Mathlib.Omega.{arith}
 use borrow.Author.Needs.{needs}
+use Rattle.calendar.specs.Gregorian.{daysBeforeYear}
 use Rattle.calendar.proofs.gregorian.days_before_year.Statement.{statement}
 use Rattle.calendar.proofs.gregorian.days_before_year.Tie as tie
 
@@ -27,7 +28,7 @@ add-result-5 c = search needs
 
 returns : tie.Need-returns
 unfolding daysBeforeYear
-returns c = refl
+returns c = (refl, omega arith)
 
 pub days-before-year-spec : {M : Type 1} → statement M
 days-before-year-spec =

@@ -1,7 +1,7 @@
-use Rattle.calendar.proofs.Months.{february, no-month, lengths, length-at}
 use mathlib.Core.Bool.{true, false}
 use mathlib.Core.Path.{sym, _∙_}
 use borrow.Author.Needs.{needs}
+use Rattle.calendar.proofs.Months.{lengths, february, no-month, length-at}
 use Rattle.calendar.proofs.gregorian.days_of_month.Statement.{statement}
 use Rattle.calendar.proofs.gregorian.days_of_month.Tie as tie
 

@@ -1,5 +1,5 @@
-use Rattle.calendar.specs.Gregorian.{isDate}
 use borrow.Author.Needs.{needs}
+use Rattle.calendar.specs.Gregorian.{isDate}
 use Rattle.calendar.proofs.gregorian.is_date.Statement.{statement}
 use Rattle.calendar.proofs.gregorian.is_date.Tie as tie
 

@@ -1,5 +1,5 @@
-use Rattle.calendar.specs.Gregorian.{leapYear}
 use borrow.Author.Tests.{eq-eqb, ne-eqb}
+use Rattle.calendar.specs.Gregorian.{leapYear}
 use Rattle.calendar.proofs.gregorian.leap_year.Statement.{statement}
 use Rattle.calendar.proofs.gregorian.leap_year.Tie as tie
 

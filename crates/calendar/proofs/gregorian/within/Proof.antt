@@ -1,5 +1,5 @@
-use Rattle.calendar.specs.Gregorian.{within}
 use borrow.Author.Tests.{le-leb, lt-leb}
+use Rattle.calendar.specs.Gregorian.{within}
 use Rattle.calendar.proofs.gregorian.within.Statement.{statement}
 use Rattle.calendar.proofs.gregorian.within.Tie as tie
 

@@ -1,6 +1,6 @@
 use mathlib.Core.Path.{sym, _∙_}
-use Rattle.calendar.specs.Peak.{summerPeak}
 use borrow.Author.Needs.{needs}
+use Rattle.calendar.specs.Peak.{summerPeak}
 use Rattle.calendar.proofs.peak.is_summer_peak.Statement.{statement}
 use Rattle.calendar.proofs.peak.is_summer_peak.Tie as tie
 

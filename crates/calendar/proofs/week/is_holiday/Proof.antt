@@ -1,7 +1,7 @@
 use mathlib.Core.Bool.{or-false}
+use borrow.Author.Needs.{needs}
 use borrow.Author.Tests.{ne-eqb}
 use Rattle.calendar.specs.Week.{isHoliday}
-use borrow.Author.Needs.{needs}
 use Rattle.calendar.proofs.week.is_holiday.Statement.{statement}
 use Rattle.calendar.proofs.week.is_holiday.Tie as tie
 

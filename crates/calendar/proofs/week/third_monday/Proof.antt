@@ -1,6 +1,5 @@
-use native.Mathlib.Omega.{arith}
-use Rattle.calendar.specs.Week.{weekday, firstMonday, thirdMonday}
 use borrow.Author.Needs.{needs}
+use Rattle.calendar.specs.Week.{firstMonday, thirdMonday}
 use Rattle.calendar.proofs.week.third_monday.Statement.{statement}
 use Rattle.calendar.proofs.week.third_monday.Tie as tie
 
@@ -8,8 +7,7 @@ weekday-requires : tie.Need-weekday-requires
 weekday-requires c κs = search needs
 
 sub-result : tie.Need-sub-result
-unfolding weekday
-sub-result c = omega (arith, c .weekday .ensures)
+sub-result c = search needs
 
 add-result : tie.Need-add-result
 add-result c = search needs
@@ -19,7 +17,7 @@ add-result-2 c = search needs
 
 returns : tie.Need-returns
 unfolding thirdMonday firstMonday
-returns c = rw (c .weekday .ensures)
+returns c = rw (c .weekday .ensures .0)
 
 pub third-monday-spec : {M : Type 1} → statement M
 third-monday-spec =
