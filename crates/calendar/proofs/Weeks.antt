@@ -5,13 +5,13 @@ use mathlib.Core.Logic.{⊎-elim}
 use Prim.Native.Nat.{ℕ, _≤_}
 use native.Mathlib.Omega.{arith}
 use Rattle.calendar.specs.Sum.{sumBelow}
-use Rattle.calendar.specs.Gregorian.{within, leapYear, monthDays, daysBeforeYear, dayOfYear, dayNumber}
+use Rattle.calendar.specs.Gregorian.{within, leapYear, monthDays, multiplesBelow, daysBeforeYear, dayOfYear, dayNumber}
 use Rattle.calendar.specs.Week.{monday, tuesday, weekday, firstMonday, thirdMonday}
 use Rattle.calendar.specs.Peak.{summerPeak, winterPeak, peakPeriod}
 use Rattle.calendar.proofs.Tests.{and-left, or-cases, within-to}
 
 pub known-weekday : weekday 2011 7 5 ≡ tuesday
-unfolding sumBelow within leapYear monthDays daysBeforeYear dayOfYear dayNumber weekday
+unfolding sumBelow within leapYear monthDays multiplesBelow daysBeforeYear dayOfYear dayNumber weekday
 known-weekday = refl
 
 module _ (y m : ℕ) where

@@ -27,9 +27,13 @@ daysOfMonth y m = monthDays (leapYear y) m
 unfoldable pub isDate : ℕ → ℕ → ℕ → Bool
 isDate y m d = within 1 (daysOfMonth y m) d
 
--- the days of the years 0 to y - 1: 365 each, and one more for each leap year among them
+-- how many multiples of n are below y, 0 among them
+unfoldable pub multiplesBelow : ℕ → ℕ → ℕ
+multiplesBelow n y = (y + (n - 1)) / n
+
+-- the days of the years before y, from year 0 on: 365 each, and one more for each leap year among them
 unfoldable pub daysBeforeYear : ℕ → ℕ
-daysBeforeYear y = 365 * y + (y + 3) / 4 - (y + 99) / 100 + (y + 399) / 400
+daysBeforeYear y = 365 * y + multiplesBelow 4 y - multiplesBelow 100 y + multiplesBelow 400 y
 
 -- the days of the months before month m of year y
 abbrev pub daysBeforeMonth : ℕ → ℕ → ℕ

@@ -3,5 +3,6 @@
 pub mod delivery_year;
 mod gregorian;
 pub mod laws;
-pub mod peak;
+mod peak;
+pub mod question;
 mod week;

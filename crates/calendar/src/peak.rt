@@ -1,11 +1,10 @@
-// Peak hours, and the peak question.
-use crate::gregorian::is_date;
+// Peak hours.
 use crate::gregorian::within;
 use crate::week::is_holiday;
 use crate::week::weekday;
 ghost use mathlib.Core.Path.{_≡_};
 ghost use Prim.Native.Nat.{_≤_, _<_, _^_};
-ghost use Rattle.calendar.specs.Peak.{summerPeak, winterPeak, peakPeriod, peakDay, peakHour, isAnswered, peakAnswer};
+ghost use Rattle.calendar.specs.Peak.{summerPeak, winterPeak, peakPeriod, peakDay, peakHour};
 
 const SATURDAY: u64 = 5;
 
@@ -58,33 +57,4 @@ pub fn is_peak(year: u64, month: u64, day: u64, hour_ending: u64) -> bool
         return is_peak_day(year, month, day);
     }
     false
-}
-
-fn is_answered(year: u64, month: u64, day: u64, hour_ending: u64) -> bool
-    ensures { λ r. ⌜ r ≡ isAnswered year month day «hour_ending» ⌝ }
-{
-    if is_date(year, month, day) {
-        if within(1, 24, hour_ending) {
-            return within(2007, 2100, year);
-        }
-    }
-    false
-}
-
-// The peak question, for the controllers' C firmware (include/peak_hour.h).
-#[no_mangle]
-pub extern "C" fn peak_hour(year: u32, month: u32, day: u32, hour_ending: u32) -> u32
-    ensures { λ r. ⌜ r ≡ peakAnswer year month day «hour_ending» ⌝ }
-{
-    let y = year as u64;
-    let m = month as u64;
-    let d = day as u64;
-    let h = hour_ending as u64;
-    if is_answered(y, m, d, h) {
-        if is_peak(y, m, d, h) {
-            return 1;
-        }
-        return 0;
-    }
-    2
 }

@@ -1,7 +1,7 @@
 use mathlib.Core.Path.{refl}
 use native.Mathlib.Omega.{arith}
 use borrow.Author.Needs.{needs}
-use Rattle.calendar.specs.Gregorian.{daysBeforeYear}
+use Rattle.calendar.specs.Gregorian.{multiplesBelow, daysBeforeYear}
 use Rattle.calendar.proofs.gregorian.days_before_year.Statement.{statement}
 use Rattle.calendar.proofs.gregorian.days_before_year.Tie as tie
 
@@ -27,7 +27,7 @@ add-result-5 : tie.Need-add-result-5
 add-result-5 c = search needs
 
 returns : tie.Need-returns
-unfolding daysBeforeYear
+unfolding daysBeforeYear multiplesBelow
 returns c = (refl, omega arith)
 
 pub days-before-year-spec : {M : Type 1} → statement M

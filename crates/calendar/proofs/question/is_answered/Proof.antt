@@ -1,8 +1,8 @@
 use mathlib.Core.Path.{sym, _∙_}
 use borrow.Author.Needs.{needs}
 use Rattle.calendar.specs.Peak.{isAnswered}
-use Rattle.calendar.proofs.peak.is_answered.Statement.{statement}
-use Rattle.calendar.proofs.peak.is_answered.Tie as tie
+use Rattle.calendar.proofs.question.is_answered.Statement.{statement}
+use Rattle.calendar.proofs.question.is_answered.Tie as tie
 
 is-date-requires : tie.Need-is-date-requires
 is-date-requires c κs = search needs

@@ -1,8 +1,8 @@
 use mathlib.Core.Path.{sym, _∙_}
 use borrow.Author.Needs.{needs}
 use Rattle.calendar.specs.Peak.{peakAnswer}
-use Rattle.calendar.proofs.peak.peak_hour.Statement.{statement}
-use Rattle.calendar.proofs.peak.peak_hour.Tie as tie
+use Rattle.calendar.proofs.question.peak_hour.Statement.{statement}
+use Rattle.calendar.proofs.question.peak_hour.Tie as tie
 
 is-answered-requires : tie.Need-is-answered-requires
 is-answered-requires c κs = search needs
