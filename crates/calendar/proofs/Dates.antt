@@ -1,6 +1,6 @@
--- Dates: what being one says, and the next one.
-use mathlib.Core.Path.{_≡_, refl, sym, _∙_}
-use mathlib.Core.Bool.{Bool, true, false, _&&_, _||_}
+-- Dates: what being one says, the next one, and their order.
+use mathlib.Core.Path.{_≡_, refl}
+use mathlib.Core.Bool.{Bool, true, false, _&&_}
 use mathlib.Core.Logic.{_⊎_, inl, inr, ⊎-elim}
 use Prim.Native.Nat.{ℕ, _+_, _≤_, _<_}
 use native.Mathlib.Omega.{arith}
@@ -14,6 +14,7 @@ use Rattle.calendar.proofs.Sums.{sum-one-more, sum-term}
 use Rattle.calendar.proofs.Months.{no-month, month-starts, year-months, before-january}
 use Rattle.calendar.proofs.Years.{year-step, year-grows}
 
+-- what a date in the calendar has
 pub record DateFacts (y m d : ℕ) : Type 0 where
   pub month : m ≤ 12
   pub from : 1 ≤ d
@@ -21,11 +22,16 @@ pub record DateFacts (y m d : ℕ) : Type 0 where
 
 pub date-facts : (y m d : ℕ) → isDate y m d ≡ true → DateFacts y m d
 unfolding isDate
-date-facts y m d e = record { month = go (ltb 12 m) refl; from = within-from 1 (daysOfMonth y m) d e; to = within-to 1 (daysOfMonth y m) d e }
+date-facts y m d e = record { month = go (ltb 12 m) refl; from = from; to = to }
   where
+    from : 1 ≤ d
+    from = within-from 1 (daysOfMonth y m) d e
+
+    to : d ≤ daysOfMonth y m
+    to = within-to 1 (daysOfMonth y m) d e
+
     go : (t : Bool) → ltb 12 m ≡ t → m ≤ 12
-    go true q =
-        absurd (omega (arith, no-month (leapYear y) m (ltb-true 12 m q), within-from 1 (daysOfMonth y m) d e, within-to 1 (daysOfMonth y m) d e))
+    go true q = absurd (omega (arith, no-month (leapYear y) m (ltb-true 12 m q), from, to))
     go false q = ltb-false 12 m q
 
 -- by the day of the month, then the month
@@ -90,9 +96,12 @@ pub day-number-orders : (s t : Date) → isDateOf s ≡ true → isDateOf t ≡ 
 unfolding isEarlier
 day-number-orders s t ds dt e =
     ⊎-elim (λ q. by-year _ _ _ _ _ _ ds dt (ltb-true _ _ q))
-    (λ q. same-year (eqb-true (s .year) (t .year) (and-left _ _ q)) (or-cases _ _ (and-right (eqb (s .year) (t .year)) _ q))) (or-cases _ _ e)
+    (λ q. same-year (eqb-true (s .year) (t .year) (and-left _ _ q)) (or-cases _ _ (and-right (eqb (s .year) (t .year)) _ q)))
+    (or-cases _ _ e)
   where
-    same-year : s .year ≡ t .year → (ltb (s .month) (t .month) ≡ true) ⊎ ((eqb (s .month) (t .month) && ltb (s .day) (t .day)) ≡ true) → dayNumberOf s < dayNumberOf t
+    same-year : s .year ≡ t .year
+        → (ltb (s .month) (t .month) ≡ true) ⊎ ((eqb (s .month) (t .month) && ltb (s .day) (t .day)) ≡ true)
+        → dayNumberOf s < dayNumberOf t
     same-year y (inl q) = rw (← y) (by-month _ _ _ _ _ ds (rw (← y) at dt) (ltb-true _ _ q))
     same-year y (inr q) =
         let m : s .month ≡ t .month = eqb-true _ _ (and-left _ _ q) in

@@ -91,8 +91,13 @@ day-below y m d = go (isDeliveryDate y m d) refl (leb 6 m) refl
     go false qa b qb = omega (arith, no-date y m d qa, before-june (leapYear (y + 1)))
     go true qa true qb =
         let f : FromJune y m d = day-from-june y m d qa (leb-true 6 m qb) in
-        omega
-        (arith, sum-term m 13 (monthDays (leapYear y)) (omega (arith, f .date .month)), year-months (leapYear y), before-june (leapYear y), before-june (leapYear (y + 1)))
+        omega (
+          arith,
+          sum-term m 13 (monthDays (leapYear y)) (omega (arith, f .date .month)),
+          year-months (leapYear y),
+          before-june (leapYear y),
+          before-june (leapYear (y + 1)),
+        )
     go true qa false qb =
         let f : ToMay y m d = day-to-may y m d qa (leb-false 6 m qb) in
         omega (arith, sum-term m 6 (monthDays (leapYear (y + 1))) (leb-false 6 m qb), before-june (leapYear (y + 1)))

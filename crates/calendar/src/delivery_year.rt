@@ -4,7 +4,6 @@ use crate::gregorian::is_date;
 use crate::gregorian::leap_year;
 use crate::peak::is_peak;
 ghost use mathlib.Core.Path.{_≡_};
-ghost use Prim.Native.Nat.{_≤_, _<_, _^_};
 ghost use Rattle.calendar.specs.DeliveryYear.{deliveryDays, calendarYear, isDeliveryDate, deliveryDay, isDeliveryPeak};
 
 // The days of delivery year y.

@@ -3,7 +3,7 @@ use Prim.Native.Nat.{_+_, _≤_}
 use native.Mathlib.Omega.{arith}
 use lib.ListN.{getD}
 use borrow.Author.Needs.{needs}
-use Rattle.calendar.specs.Gregorian.{leapYear, daysBeforeMonth}
+use Rattle.calendar.specs.Gregorian.{daysBeforeMonth}
 use Rattle.calendar.proofs.Months.{before, before-at, before-small}
 use Rattle.calendar.proofs.gregorian.days_before_month.Statement.{statement}
 use Rattle.calendar.proofs.gregorian.days_before_month.Tie as tie
@@ -17,7 +17,8 @@ array-read-result c = search needs
 leap-day-requires : tie.Need-leap-day-requires
 leap-day-requires c κs = search needs
 
-right : (c : tie.After-leap-day) → getD before (c .before .args .month) 0 + c .leap-day .result ≡ daysBeforeMonth (c .before .args .year) (c .before .args .month)
+right : (c : tie.After-leap-day)
+    → getD before (c .before .args .month) 0 + c .leap-day .result ≡ daysBeforeMonth (c .before .args .year) (c .before .args .month)
 right c = rw (c .leap-day .ensures) (before-at _ (c .before .args .month) (c .before .pre))
 
 small : (c : tie.After-leap-day) → daysBeforeMonth (c .before .args .year) (c .before .args .month) ≤ 366

@@ -19,7 +19,12 @@ within-requires-3 c κs = search needs
 
 returns-2 : tie.Need-returns-2
 unfolding winterPeak
-returns-2 c = simp (c .within3 .ensures, sym (c .before .before .before .before .within .ensures) ∙ c .before .before .before .if1 .taken, sym (c .before .before .within2 .ensures) ∙ c .before .if2 .left)
+returns-2 c =
+    simp (
+      c .within3 .ensures,
+      sym (c .before .before .before .before .within .ensures) ∙ c .before .before .before .if1 .taken,
+      sym (c .before .before .within2 .ensures) ∙ c .before .if2 .left,
+    )
 
 returns-3 : tie.Need-returns-3
 unfolding winterPeak

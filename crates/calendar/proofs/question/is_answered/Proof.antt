@@ -15,7 +15,12 @@ within-requires-2 c κs = search needs
 
 returns : tie.Need-returns
 unfolding isAnswered
-returns c = simp (c .within2 .ensures, sym (c .before .before .before .before .is-date .ensures) ∙ c .before .before .before .if1 .taken, sym (c .before .before .within .ensures) ∙ c .before .if2 .taken)
+returns c =
+    simp (
+      c .within2 .ensures,
+      sym (c .before .before .before .before .is-date .ensures) ∙ c .before .before .before .if1 .taken,
+      sym (c .before .before .within .ensures) ∙ c .before .if2 .taken,
+    )
 
 returns-2 : tie.Need-returns-2
 unfolding isAnswered
