@@ -1,7 +1,7 @@
 -- Dates: what being one says, the next one, and their order.
 use mathlib.Core.Path.{_≡_, refl}
-use mathlib.Core.Bool.{Bool, true, false, _&&_}
-use mathlib.Core.Logic.{_⊎_, inl, inr, ⊎-elim}
+use mathlib.Core.Bool.{Bool, true, false, _&&_, _||_, and-eq-true-iff}
+use mathlib.Core.Logic.{⊎-elim}
 use Prim.Native.Nat.{ℕ, _+_, _≤_, _<_}
 use native.Mathlib.Omega.{arith}
 use lib.Dec.{ltb, eqb}
@@ -9,7 +9,7 @@ use borrow.Author.Tests.{ltb-true, ltb-false, eqb-true}
 use Rattle.calendar.specs.Sum.{sumBelow}
 use Rattle.calendar.specs.Gregorian.{monthDays, leapYear, daysOfMonth, isDate, daysBeforeYear, dayOfYear, dayNumber, Date, isEarlier, nextDate}
 use Rattle.calendar.specs.Laws.{dayNumberOf, isDateOf}
-use Rattle.calendar.proofs.Tests.{and-left, and-right, or-cases, within-from, within-to, within-holds}
+use Rattle.calendar.proofs.Tests.{or-cases, within-from, within-to, within-holds}
 use Rattle.calendar.proofs.Sums.{sum-one-more, sum-term}
 use Rattle.calendar.proofs.Months.{no-month, month-starts, year-months, before-january}
 use Rattle.calendar.proofs.Years.{year-step, year-grows}
@@ -94,15 +94,21 @@ by-day y m d d′ h = omega arith
 
 pub day-number-orders : (s t : Date) → isDateOf s ≡ true → isDateOf t ≡ true → isEarlier s t ≡ true → dayNumberOf s < dayNumberOf t
 unfolding isEarlier
-day-number-orders s t ds dt e =
-    ⊎-elim (λ q. by-year _ _ _ _ _ _ ds dt (ltb-true _ _ q))
-    (λ q. same-year (eqb-true (s .year) (t .year) (and-left _ _ q)) (or-cases _ _ (and-right (eqb (s .year) (t .year)) _ q)))
-    (or-cases _ _ e)
+day-number-orders s t ds dt e = ⊎-elim year same-year (or-cases _ _ e)
   where
-    same-year : s .year ≡ t .year
-        → (ltb (s .month) (t .month) ≡ true) ⊎ ((eqb (s .month) (t .month) && ltb (s .day) (t .day)) ≡ true)
+    year : ltb (s .year) (t .year) ≡ true → dayNumberOf s < dayNumberOf t
+    year q = by-year _ _ _ _ _ _ ds dt (ltb-true _ _ q)
+
+    month : s .year ≡ t .year → ltb (s .month) (t .month) ≡ true → dayNumberOf s < dayNumberOf t
+    month y q = rw (← y) (by-month _ _ _ _ _ ds (rw (← y) at dt) (ltb-true _ _ q))
+
+    day : s .year ≡ t .year → (eqb (s .month) (t .month) && ltb (s .day) (t .day)) ≡ true → dayNumberOf s < dayNumberOf t
+    day y q =
+        let (em, ed) = and-eq-true-iff (eqb (s .month) (t .month)) (ltb (s .day) (t .day)) .0 q in
+        rw (← y, ← eqb-true (s .month) (t .month) em) (by-day _ _ _ _ (ltb-true _ _ ed))
+
+    same-year : (eqb (s .year) (t .year) && (ltb (s .month) (t .month) || eqb (s .month) (t .month) && ltb (s .day) (t .day))) ≡ true
         → dayNumberOf s < dayNumberOf t
-    same-year y (inl q) = rw (← y) (by-month _ _ _ _ _ ds (rw (← y) at dt) (ltb-true _ _ q))
-    same-year y (inr q) =
-        let m : s .month ≡ t .month = eqb-true _ _ (and-left _ _ q) in
-        rw (← y, ← m) (by-day _ _ _ _ (ltb-true _ _ (and-right (eqb (s .month) (t .month)) _ q)))
+    same-year q =
+        let (ey, rest) = and-eq-true-iff (eqb (s .year) (t .year)) _ .0 q in
+        ⊎-elim (month (eqb-true _ _ ey)) (day (eqb-true _ _ ey)) (or-cases _ _ rest)

@@ -6,7 +6,8 @@ use native.Mathlib.Omega.{arith}
 use lib.Dec.{leb}
 use borrow.Author.Tests.{leb-true, leb-false, le-leb, lt-leb}
 use Rattle.calendar.specs.Sum.{sumBelow}
-use Rattle.calendar.specs.Gregorian.{within, monthDays, leapYear, isDate, dayOfYear, dayNumber}
+use Rattle.calendar.specs.Range.{within}
+use Rattle.calendar.specs.Gregorian.{monthDays, leapYear, isDate, dayOfYear, dayNumber}
 use Rattle.calendar.specs.DeliveryYear.{deliveryDays, calendarYear, isDeliveryDate, deliveryDay}
 use Rattle.calendar.proofs.Sums.{sum-grows, sum-term}
 use Rattle.calendar.proofs.Months.{year-small, year-months, before-june}
@@ -20,13 +21,6 @@ from-june y m h = simp (le-leb 6 m h)
 to-may : (y m : ℕ) → m < 6 → calendarYear y m ≡ y + 1
 unfolding calendarYear
 to-may y m h = simp (lt-leb 6 m h)
-
-pub calendar-year-small : (y m : ℕ) → calendarYear y m ≤ y + 1
-calendar-year-small y m = go (leb 6 m) refl
-  where
-    go : (t : Bool) → leb 6 m ≡ t → calendarYear y m ≤ y + 1
-    go true q = omega (arith, from-june y m (leb-true 6 m q))
-    go false q = omega (arith, to-may y m (leb-false 6 m q))
 
 pub no-date : (y m d : ℕ) → isDeliveryDate y m d ≡ false → deliveryDay y m d ≡ 0
 unfolding deliveryDay

@@ -1,6 +1,7 @@
 -- The definitions give figures a to d.
 use Rattle.calendar.specs.Sum.{sumBelow}
-use Rattle.calendar.specs.Gregorian.{within, leapYear, monthDays, isDate, multiplesBelow, daysBeforeYear, dayOfYear, dayNumber}
+use Rattle.calendar.specs.Range.{within}
+use Rattle.calendar.specs.Gregorian.{leapYear, monthDays, isDate, multiplesBelow, daysBeforeYear, dayOfYear, dayNumber}
 use Rattle.calendar.specs.Week.{weekday, firstMonday, thirdMonday, isHoliday}
 use Rattle.calendar.specs.Peak.{summerPeak, winterPeak, peakPeriod, peakDay, peakHour, isAnswered, peakAnswer}
 use Rattle.calendar.specs.Figures.{EachGiven, peakGiven, peakRows}

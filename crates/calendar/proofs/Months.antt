@@ -8,7 +8,8 @@ use lib.Dec.{leb, ltb, eqb}
 use lib.ListN.{getD}
 use borrow.Author.Tests.{eqb-true, ne-eqb, leb-true, lt-leb}
 use Rattle.calendar.specs.Sum.{sumBelow}
-use Rattle.calendar.specs.Gregorian.{within, monthDays}
+use Rattle.calendar.specs.Range.{within}
+use Rattle.calendar.specs.Gregorian.{monthDays}
 use Rattle.calendar.proofs.Tests.{allBelow, each-below}
 use Rattle.calendar.proofs.Sums.{sum-grows}
 

@@ -1,7 +1,7 @@
 -- The delivery year: year y runs from 1 June y to 31 May y + 1.
 -- 01, Records.
 use Prim.Native.Nat.{ℕ, _+_, _-_}
-use mathlib.Core.Bool.{Bool, cond}
+use mathlib.Core.Bool.{Bool, cond, _&&_}
 use lib.Dec.{leb}
 use Rattle.calendar.specs.Gregorian.{leapYear, isDate, dayNumber}
 use Rattle.calendar.specs.Peak.{peakHour}
@@ -22,6 +22,6 @@ isDeliveryDate y m d = isDate (calendarYear y m) m d
 unfoldable pub deliveryDay : ℕ → ℕ → ℕ → ℕ
 deliveryDay y m d = cond (isDeliveryDate y m d) (dayNumber (calendarYear y m) m d - dayNumber y 6 1) 0
 
--- the hour ending h of day d of month m of delivery year y is peak
+-- day d of month m is a date of delivery year y, and its hour ending h is peak
 unfoldable pub isDeliveryPeak : ℕ → ℕ → ℕ → ℕ → Bool
-isDeliveryPeak y m d h = peakHour (calendarYear y m) m d h
+isDeliveryPeak y m d h = isDeliveryDate y m d && peakHour (calendarYear y m) m d h

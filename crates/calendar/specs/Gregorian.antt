@@ -2,12 +2,9 @@
 -- 01, Records ("a Gregorian leap year") and Places of refusal, row 6 ("a date not in the calendar").
 use Prim.Native.Nat.{ℕ, _+_, _-_, _*_, _/_, _%_}
 use mathlib.Core.Bool.{Bool, not, cond, _&&_, _||_}
-use lib.Dec.{leb, ltb, eqb}
+use lib.Dec.{ltb, eqb}
+use Rattle.calendar.specs.Range.{within}
 use Rattle.calendar.specs.Sum.{sumBelow}
-
--- x is one of first to last
-unfoldable pub within : ℕ → ℕ → ℕ → Bool
-within first last x = leb first x && leb x last
 
 -- every fourth year is leap, but of the full centuries only every fourth
 unfoldable pub leapYear : ℕ → Bool

@@ -3,7 +3,8 @@
 use Prim.Native.Nat.{ℕ}
 use mathlib.Core.Bool.{Bool, not, cond, _&&_, _||_}
 use lib.Dec.{ltb}
-use Rattle.calendar.specs.Gregorian.{within, isDate}
+use Rattle.calendar.specs.Range.{within}
+use Rattle.calendar.specs.Gregorian.{isDate}
 use Rattle.calendar.specs.Week.{saturday, weekday, isHoliday}
 
 -- June to August, hours ending 15 to 19

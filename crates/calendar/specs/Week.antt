@@ -23,9 +23,11 @@ weekday y m d = (dayNumber y m d + 4) % 7
 unfoldable pub firstMonday : ℕ → ℕ → ℕ
 firstMonday y m = 1 + (7 - weekday y m 1) % 7
 
+-- two weeks later
 unfoldable pub thirdMonday : ℕ → ℕ → ℕ
 thirdMonday y m = firstMonday y m + 14
 
+-- 1 January, the third Mondays of January and February, 4 July
 unfoldable pub isHoliday : ℕ → ℕ → ℕ → Bool
 isHoliday y m d =
     eqb m 1 && eqb d 1

@@ -4,6 +4,7 @@ use crate::gregorian::is_date;
 use crate::gregorian::leap_year;
 use crate::peak::is_peak;
 ghost use mathlib.Core.Path.{_≡_};
+ghost use Prim.Native.Nat.{_≤_, _^_};
 ghost use Rattle.calendar.specs.DeliveryYear.{deliveryDays, calendarYear, isDeliveryDate, deliveryDay, isDeliveryPeak};
 
 // The days of delivery year y.
@@ -14,7 +15,7 @@ pub fn delivery_days(y: u32) -> u32
 }
 
 fn calendar_year(y: u32, month: u32) -> u64
-    ensures { λ r. ⌜ r ≡ calendarYear y month ⌝ }
+    ensures { λ r. ⌜ (r ≡ calendarYear y month) × (r ≤ 2 ^ 32) ⌝ }
 {
     if 6 <= month { y as u64 } else { y as u64 + 1 }
 }
@@ -45,14 +46,17 @@ pub fn delivery_day(y: u32, month: u32, day: u32) -> u32
     0
 }
 
-// Whether the hour ending hour_ending of (month, day) of delivery year y is peak.
+// Whether (month, day) is a date of delivery year y and its hour ending hour_ending is peak.
 pub fn is_delivery_peak(y: u32, month: u32, day: u32, hour_ending: u32) -> bool
     ensures { λ r. ⌜ r ≡ isDeliveryPeak y month day «hour_ending» ⌝ }
 {
-    is_peak(
-        calendar_year(y, month),
-        month as u64,
-        day as u64,
-        hour_ending as u64,
-    )
+    if is_delivery_date(y, month, day) {
+        return is_peak(
+            calendar_year(y, month),
+            month as u64,
+            day as u64,
+            hour_ending as u64,
+        );
+    }
+    false
 }

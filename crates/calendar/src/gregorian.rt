@@ -1,18 +1,10 @@
 // The Gregorian calendar. Years are at most 2^32 and days below 2^32 where a sum must fit 64 bits.
+use crate::range::within;
 ghost use mathlib.Core.Path.{_≡_};
 ghost use mathlib.Core.Bool.{cond, _&&_};
 ghost use Prim.Native.Nat.{_≤_, _<_, _^_};
 ghost use lib.Dec.{ltb};
-ghost use Rattle.calendar.specs.Gregorian.{within, leapYear, daysOfMonth, isDate, daysBeforeYear, daysBeforeMonth, dayOfYear, dayNumber};
-
-pub fn within(first: u64, last: u64, x: u64) -> bool
-    ensures { λ r. ⌜ r ≡ within first last x ⌝ }
-{
-    if x < first {
-        return false;
-    }
-    x <= last
-}
+ghost use Rattle.calendar.specs.Gregorian.{leapYear, daysOfMonth, isDate, daysBeforeYear, daysBeforeMonth, dayOfYear, dayNumber};
 
 pub fn leap_year(year: u64) -> bool
     ensures { λ r. ⌜ r ≡ leapYear year ⌝ }

@@ -5,4 +5,5 @@ mod gregorian;
 pub mod laws;
 mod peak;
 pub mod question;
+pub mod range;
 mod week;

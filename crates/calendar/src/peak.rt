@@ -1,5 +1,5 @@
 // Peak hours.
-use crate::gregorian::within;
+use crate::range::within;
 use crate::week::is_holiday;
 use crate::week::weekday;
 ghost use mathlib.Core.Path.{_≡_};

@@ -1,3 +1,4 @@
+use native.Mathlib.Omega.{arith}
 use borrow.Author.Needs.{needs}
 use borrow.Author.Tests.{le-leb, lt-leb}
 use Rattle.calendar.specs.DeliveryYear.{calendarYear}
@@ -9,11 +10,11 @@ add-result c = search needs
 
 returns : tie.Need-returns
 unfolding calendarYear
-returns c = simp (le-leb _ _ (c .if1 .taken))
+returns c = (simp (le-leb _ _ (c .if1 .taken)), omega arith)
 
 returns-2 : tie.Need-returns-2
 unfolding calendarYear
-returns-2 c = simp (lt-leb _ _ (c .if1 .left))
+returns-2 c = (simp (lt-leb _ _ (c .if1 .left)), omega arith)
 
 pub calendar-year-spec : {M : Type 1} → statement M
 calendar-year-spec = tie.close (tie.spec add-result returns returns-2)

@@ -11,7 +11,7 @@ is-date-requires c κs = search needs
 
 returns : tie.Need-returns
 unfolding isDeliveryDate
-returns c = rw (c .is-date .ensures, c .before .calendar-year .ensures)
+returns c = rw (c .is-date .ensures, c .before .calendar-year .ensures .0)
 
 pub is-delivery-date-spec : {M : Type 1} → statement M
 is-delivery-date-spec = tie.close (tie.spec calendar-year-requires is-date-requires returns)

@@ -1,7 +1,7 @@
 use borrow.Author.Tests.{le-leb, lt-leb}
-use Rattle.calendar.specs.Gregorian.{within}
-use Rattle.calendar.proofs.gregorian.within.Statement.{statement}
-use Rattle.calendar.proofs.gregorian.within.Tie as tie
+use Rattle.calendar.specs.Range.{within}
+use Rattle.calendar.proofs.range.within.Statement.{statement}
+use Rattle.calendar.proofs.range.within.Tie as tie
 
 returns : tie.Need-returns
 unfolding within
