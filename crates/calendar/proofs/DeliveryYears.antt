@@ -1,6 +1,6 @@
 -- The day of the delivery year, by the day of the calendar year.
 use mathlib.Core.Path.{_≡_, refl}
-use mathlib.Core.Bool.{Bool, true, false}
+use mathlib.Core.Bool.{Bool, true, false, cond}
 use Prim.Native.Nat.{ℕ, _+_, _-_, _≤_, _<_}
 use native.Mathlib.Omega.{arith}
 use lib.Dec.{leb}
@@ -14,13 +14,18 @@ use Rattle.calendar.proofs.Months.{year-small, year-months, before-june
 use Rattle.calendar.proofs.Years.{year-step}
 use Rattle.calendar.proofs.Dates.{DateFacts, date-facts}
 
-from-june : (y m : ℕ) → 6 ≤ m → calendarYear y m ≡ y
+pub from-june : (y m : ℕ) → 6 ≤ m → calendarYear y m ≡ y
 unfolding calendarYear
 from-june y m h = simp (le-leb 6 m h)
 
-to-may : (y m : ℕ) → m < 6 → calendarYear y m ≡ y + 1
+pub to-may : (y m : ℕ) → m < 6 → calendarYear y m ≡ y + 1
 unfolding calendarYear
 to-may y m h = simp (lt-leb 6 m h)
+
+-- the days by what is known of y + 1
+pub days-by : (y : ℕ) (leap : Bool) → leapYear (y + 1) ≡ leap → cond leap 366 365 ≡ deliveryDays y
+unfolding deliveryDays
+days-by y leap e = rw e
 
 pub no-date : (y m d : ℕ) → isDeliveryDate y m d ≡ false → deliveryDay y m d ≡ 0
 unfolding deliveryDay

@@ -1,7 +1,7 @@
+use mathlib.Core.Path.{sym}
 use native.Mathlib.Omega.{arith}
 use borrow.Author.Needs.{needs}
-use borrow.Author.Tests.{le-leb, lt-leb}
-use Rattle.calendar.specs.DeliveryYear.{calendarYear}
+use Rattle.calendar.proofs.DeliveryYears.{from-june, to-may}
 use Rattle.calendar.proofs.delivery_year.calendar_year.Statement.{statement}
 use Rattle.calendar.proofs.delivery_year.calendar_year.Tie as tie
 
@@ -9,12 +9,10 @@ add-result : tie.Need-add-result
 add-result c = search needs
 
 returns : tie.Need-returns
-unfolding calendarYear
-returns c = (simp (le-leb _ _ (c .if1 .taken)), omega arith)
+returns c = (sym (from-june _ _ (c .if1 .taken)), omega arith)
 
 returns-2 : tie.Need-returns-2
-unfolding calendarYear
-returns-2 c = (simp (lt-leb _ _ (c .if1 .left)), omega arith)
+returns-2 c = (sym (to-may _ _ (c .if1 .left)), omega arith)
 
 pub calendar-year-spec : {M : Type 1} → statement M
 calendar-year-spec = tie.close (tie.spec add-result returns returns-2)
