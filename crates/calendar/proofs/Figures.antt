@@ -7,5 +7,6 @@ use Rattle.calendar.specs.Peak.{summerPeak, winterPeak, peakPeriod, peak
 use Rattle.calendar.specs.Figures.{EachGiven, peakGiven, peakRows}
 
 pub peak-figures : EachGiven peakGiven peakRows
-unfolding sumBelow within leapYear monthDays isDate multiplesBelow daysBeforeYear dayOfYear dayNumber weekday firstMonday thirdMonday isHoliday summerPeak winterPeak peakPeriod peakDay peakHour isAnswered peakAnswer
+unfolding sumBelow within leapYear monthDays isDate multiplesBelow daysBeforeYear dayOfYear dayNumber
+    weekday firstMonday thirdMonday isHoliday summerPeak winterPeak peakPeriod peakDay peakHour isAnswered peakAnswer
 peak-figures = search tt depth 40
