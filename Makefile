@@ -1,7 +1,7 @@
 # make test   the gate: every crate proved from nothing, every must-fail edit refused, then the host tests
 # make run    the peak hours of the seven days from WEEK, a date of 2007 to 2100
 
-WEEK = 2011-07-04
+export WEEK = 2011-07-04
 
 ARCHIVE = target/staticlib/libcalendar.a
 SOURCES = $(shell find crates/calendar/src crates/calendar/specs crates/calendar/proofs -type f)
@@ -16,7 +16,7 @@ test:
 	@tests/tally 'rt ci' $(HOST:%=tests/host/%)
 
 run: target/peak_week
-	@target/peak_week '$(WEEK)'
+	@target/peak_week "$$WEEK"
 
 archive: $(ARCHIVE)
 
