@@ -1,0 +1,137 @@
+-- Laws of bounds: why 64 bits are enough.
+use mathlib.Core.Path.{_≡_}
+use mathlib.Core.Bool.{true}
+use Prim.Native.Nat.{ℕ, zero, suc, _+_, _-_, _*_, _^_, _≤_, _<_, zero-le}
+use native.Mathlib.Nat.{le-trans, add-mul, mul-le-mul, div-le-of-le-mul}
+use native.Mathlib.Omega.{arith}
+use lib.IntN.{ℤ, natAbs}
+use Rattle.calendar.specs.Sum.{sumBelow}
+use Rattle.calendar.proofs.Sums.{sum-term}
+use Rattle.settlement.specs.declared.capacity.UnitFacts.{UnitFacts}
+use Rattle.settlement.specs.Signed.{above, below}
+use Rattle.settlement.specs.Capacity.{wattDays, committed, limitedShortfall, unitInRange}
+use Rattle.settlement.specs.Split.{split, splitSigned}
+use Rattle.settlement.specs.Shares.{net}
+use Rattle.settlement.specs.Money.{priced, charge, ceiling, charges, ceilings, credit, left, loadShare, due, areaInRange}
+use Rattle.settlement.proofs.Sums.{sum-at-most, sum-exchange, sum-bounded}
+use Rattle.settlement.proofs.SignedSums.{above-difference, below-difference}
+use Rattle.settlement.proofs.Sizes.{above-size, below-size, sum-size, share-size}
+use Rattle.settlement.proofs.Splits.{shares-at-most}
+use Rattle.settlement.proofs.Monies.{credits-add-up}
+use Rattle.settlement.proofs.Capacities.{committed-at-most, limited-shortfall-size, UnitRange, unit-range, AreaRange, area-range}
+
+pub watt-days-bound : (n : ℕ) (watts first last : ℕ → ℕ) → n ≤ 64 → ((k : ℕ) → (watts k ≤ 5000000) × (last k ≤ 365))
+    → sumBelow n (λ k. wattDays (watts k) (first k) (last k)) ≤ 117120000000
+unfolding wattDays
+watt-days-bound n watts first last few each =
+    sum-bounded n 64 1830000000 _ few (λ k. mul-le-mul {n₂ = 5000000} {m₂ = 366} (each k .0) (omega (arith, each k .1)))
+
+pub committed-bound : (v : ℕ) → v ≤ 117120000000 → v * 100000 ≤ 11712000000000000
+committed-bound v h = omega arith
+
+pub rated-bound : (u : UnitFacts) (v days : ℕ) → unitInRange u ≡ true
+    → committed (u .installed .0) (u .e) v days * (u .sh * u .installed .0 - u .d) ≤ 219600000000000000
+rated-bound u v days q =
+    let r : UnitRange u = unit-range u q in
+    mul-le-mul {n₂ = 5000000} {m₂ = 43920000000}
+    (omega (arith, committed-at-most (u .installed .0) (u .e) v days))
+    (omega (arith, mul-le-mul {n₁ = u .sh} {m₁ = u .installed .0} {n₂ = 8784} {m₂ = 5000000} (r .sh-to) (r .installed-to)))
+
+pub shortfall-bound : (u : UnitFacts) (v days : ℕ) → unitInRange u ≡ true → natAbs (limitedShortfall u v days) ≤ 5000000
+shortfall-bound u v days q = le-trans (limited-shortfall-size u v days) (unit-range u q .installed-to)
+
+pub split-bound : (u : UnitFacts) (v days : ℕ) → unitInRange u ≡ true → v ≤ 117120000000
+    → natAbs (limitedShortfall u v days) * v ≤ 585600000000000000
+split-bound u v days q h = mul-le-mul {n₂ = 5000000} {m₂ = 117120000000} (shortfall-bound u v days q) h
+
+-- the sizes of all parties' nets add up to at most the units' sizes
+nets-size : (n m : ℕ) (S : ℕ → ℤ) (w : ℕ → ℕ → ℕ)
+    → sumBelow m (λ p. natAbs (net n (λ u. splitSigned (S u) m (w u)) p)) ≤ sumBelow n (λ u. natAbs (S u))
+unfolding net
+nets-size n m S w =
+    le-trans (sum-at-most m _ _ (λ p h. sum-size n (λ u. splitSigned (S u) m (w u) p)))
+    (rw (sum-exchange m n (λ p u. natAbs (splitSigned (S u) m (w u) p)))
+    (sum-at-most n _ _ (λ u h. simp share-size (shares-at-most (natAbs (S u)) m (w u)))))
+
+sizes-bound : (n : ℕ) (S : ℕ → ℤ) (w : ℕ → ℕ → ℕ) → n ≤ 32 → ((u : ℕ) → natAbs (S u) ≤ 5000000)
+    → sumBelow 16 (λ p. natAbs (net n (λ u. splitSigned (S u) 16 (w u)) p)) ≤ 160000000
+sizes-bound n S w few each = le-trans (nets-size n 16 S w) (sum-bounded n 32 5000000 _ few each)
+
+pub shortfalls-bound : (n : ℕ) (S : ℕ → ℤ) (w : ℕ → ℕ → ℕ) → n ≤ 32 → ((u : ℕ) → natAbs (S u) ≤ 5000000)
+    → sumBelow 16 (λ p. above (net n (λ u. splitSigned (S u) 16 (w u)) p)) ≤ 160000000
+shortfalls-bound n S w few each = le-trans (sum-at-most 16 _ _ (λ p h. above-size _)) (sizes-bound n S w few each)
+
+pub excesses-bound : (n : ℕ) (S : ℕ → ℤ) (w : ℕ → ℕ → ℕ) → n ≤ 32 → ((u : ℕ) → natAbs (S u) ≤ 5000000)
+    → sumBelow 16 (λ p. below (net n (λ u. splitSigned (S u) 16 (w u)) p)) ≤ 160000000
+excesses-bound n S w few each = le-trans (sum-at-most 16 _ _ (λ p h. below-size _)) (sizes-bound n S w few each)
+
+pub priced-bound : (w price days : ℕ) → w ≤ 160000000 → price ≤ 50000 → days ≤ 366 → w * price * days ≤ 2928000000000000
+priced-bound w price days hw hp hd =
+    mul-le-mul {n₂ = 8000000000000} {m₂ = 366} (mul-le-mul {n₂ = 160000000} {m₂ = 50000} hw hp) hd
+
+-- floors add up to at most the floor of the sum
+priced-add : (a b price days : ℕ) → priced a price days + priced b price days ≤ priced (a + b) price days
+unfolding priced
+priced-add a b price days = rw (add-mul a b price, add-mul (a * price) (b * price) days) (omega arith)
+
+priced-sum : (n : ℕ) (x : ℕ → ℕ) (price days : ℕ) → sumBelow n (λ p. priced (x p) price days) ≤ priced (sumBelow n x) price days
+unfolding sumBelow
+priced-sum zero x price days = zero-le
+priced-sum (suc n) x price days = omega (arith, priced-add (sumBelow n x) (x n) price days, priced-sum n x price days)
+
+pricings-bound : (x : ℕ → ℕ) (price days : ℕ) → sumBelow 16 x ≤ 160000000 → price ≤ 50000 → days ≤ 366
+    → sumBelow 16 (λ p. priced (x p) price days) ≤ 2928000000
+unfolding priced
+pricings-bound x price days hx hp hd =
+    le-trans (priced-sum 16 x price days) (div-le-of-le-mul 1000000 (priced-bound (sumBelow 16 x) price days hx hp hd))
+
+pub charges-bound : (N : ℕ → ℤ) (price days : ℕ) (o : ℕ → ℕ) → areaInRange N price days o ≡ true → charges N price days ≤ 2928000000
+unfolding charges charge
+charges-bound N price days o q =
+    let r : AreaRange N price days o = area-range N price days o q in
+    pricings-bound (λ p. above (N p)) price days (r .shortfalls-to) (r .price-to) (r .days-to)
+
+pub ceilings-bound : (N : ℕ → ℤ) (price days : ℕ) (o : ℕ → ℕ) → areaInRange N price days o ≡ true → ceilings N price days ≤ 2928000000
+unfolding ceilings ceiling
+ceilings-bound N price days o q =
+    let r : AreaRange N price days o = area-range N price days o q in
+    pricings-bound (λ p. below (N p)) price days (r .excesses-to) (r .price-to) (r .days-to)
+
+pub credits-fit : (N : ℕ → ℤ) (price days : ℕ) (o : ℕ → ℕ) → areaInRange N price days o ≡ true
+    → charges N price days * ceilings N price days < 2 ^ 63
+credits-fit N price days o q =
+    omega (arith, mul-le-mul {n₂ = 2928000000} {m₂ = 2928000000} (charges-bound N price days o q) (ceilings-bound N price days o q))
+
+pub load-shares-fit : (N : ℕ → ℤ) (price days : ℕ) (o : ℕ → ℕ) → areaInRange N price days o ≡ true
+    → left N price days * sumBelow 16 o < 2 ^ 63
+unfolding left
+load-shares-fit N price days o q =
+    let h : left N price days ≤ 2928000000 = omega (arith, charges-bound N price days o q) in
+    omega (arith, mul-le-mul {n₂ = 2928000000} {m₂ = 1600000000} h (area-range N price days o q .obligations-to))
+
+-- a party's credit and load share together are at most R
+received-at-most : (N : ℕ → ℤ) (price days : ℕ) (o : ℕ → ℕ) (p : ℕ) → p < 16
+    → credit N price days p + loadShare N price days o p ≤ charges N price days
+unfolding left loadShare
+received-at-most N price days o p h =
+    omega (
+      arith,
+      sum-term p 16 (credit N price days) h,
+      credits-add-up N price days,
+      sum-term p 16 (split (left N price days) 16 o) h,
+      shares-at-most (left N price days) 16 o,
+    )
+
+pub due-above : (N : ℕ → ℤ) (price days : ℕ) (o : ℕ → ℕ) (p : ℕ) → p < 16 → areaInRange N price days o ≡ true
+    → above (due N price days o p) ≤ 2928000000
+unfolding due
+due-above N price days o p h q =
+    rw (above-difference (credit N price days p + loadShare N price days o p) (charge N price days p))
+    (omega (arith, received-at-most N price days o p h, charges-bound N price days o q))
+
+pub due-below : (N : ℕ → ℤ) (price days : ℕ) (o : ℕ → ℕ) (p : ℕ) → p < 16 → areaInRange N price days o ≡ true
+    → below (due N price days o p) ≤ 2928000000
+unfolding due charges
+due-below N price days o p h q =
+    rw (below-difference (credit N price days p + loadShare N price days o p) (charge N price days p))
+    (omega (arith, sum-term p 16 (charge N price days) h, charges-bound N price days o q))

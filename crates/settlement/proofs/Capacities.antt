@@ -1,0 +1,163 @@
+-- Laws of T, of unforced watts, P and S, of the limit, and what the tests of ranges say.
+use mathlib.Core.Path.{_≡_, refl}
+use mathlib.Core.Bool.{Bool, true, false, cond, and-eq-true-iff}
+use Prim.Native.Nat.{ℕ, suc, _+_, _-_, _*_, _≤_, max}
+use native.Mathlib.Nat.{le-refl, le-trans, min-le-left, max-le, mul-le-mul-left, mul-comm, div-le-of-le-mul}
+use native.Mathlib.Omega.{arith}
+use lib.IntN.{ℤ, pos, negsuc, natAbs}
+use lib.Signed.{_≤ℤ_, leZ-yes, ≤ℤ-refl}
+use lib.Dec.{eqb, ltb, leb→le, le→leb}
+use borrow.Author.Tests.{ltb-true, ltb-false, le-ltb, leb-true}
+use Rattle.calendar.specs.Sum.{sumBelow}
+use Rattle.calendar.proofs.Tests.{within-from, within-to}
+use Rattle.settlement.specs.declared.capacity.UnitFacts.{UnitFacts}
+use Rattle.settlement.specs.Signed.{above, below}
+use Rattle.settlement.specs.Capacity.{committed, unforced, peakRated, available, quarters, limit, limited}
+use Rattle.settlement.specs.Capacity.{unitShortfall, unitLimit, limitedShortfall, unitInRange, yearInRange}
+use Rattle.settlement.specs.Money.{areaInRange}
+use Rattle.settlement.proofs.Sizes.{difference-size}
+
+pub committed-at-most : (i e v days : ℕ) → committed i e v days ≤ i
+unfolding committed
+committed-at-most i e v days = min-le-left i _
+
+pub unforced-at-most : (watts rate : ℕ) → unforced watts rate ≤ watts
+unfolding unforced
+unforced-at-most watts rate =
+    div-le-of-le-mul 100000 (omega (arith, mul-le-mul-left {m = 100000 - rate} {n = 100000} watts (omega arith)))
+
+pub peak-rated-at-most : (t i sh foh d : ℕ) → peakRated t i sh foh d ≤ t
+unfolding peakRated
+peak-rated-at-most t i sh foh d =
+    div-le-of-le-mul (i * (sh + foh)) (rw (mul-comm (i * (sh + foh)) t) (mul-le-mul-left t (omega arith)))
+
+pub available-at-most : (t i g sh foh d : ℕ) → available t i g sh foh d ≤ t
+unfolding available
+available-at-most t i g sh foh d = go (eqb (sh + foh) 0) (ltb sh 50) (unforced-at-most t g) (peak-rated-at-most t i sh foh d)
+  where
+    go : (a b : Bool) → unforced t g ≤ t → peakRated t i sh foh d ≤ t
+        → cond a (unforced t g) (cond b (max (peakRated t i sh foh d) (unforced t g)) (peakRated t i sh foh d)) ≤ t
+    go true b year peak = year
+    go false true year peak = omega arith
+    go false false year peak = peak
+
+pub limited-at-most : (l : ℕ) (s : ℤ) → limited l s ≤ℤ pos l
+unfolding limited
+limited-at-most l (pos s) = go (ltb l s) refl
+  where
+    go : (t : Bool) → ltb l s ≡ t → cond t (pos l) (pos s) ≤ℤ pos l
+    go true q = ≤ℤ-refl (pos l)
+    go false q = leZ-yes (le→leb s l (ltb-false l s q))
+limited-at-most l (negsuc x) = leZ-yes tt
+
+pub not-above-untouched : (l : ℕ) (s : ℤ) → s ≤ℤ pos l → limited l s ≡ s
+unfolding limited
+not-above-untouched l (pos s) h = simp (le-ltb l s (leb→le s l (h .le)))
+not-above-untouched l (negsuc x) h = refl
+
+pub excess-untouched : (l : ℕ) (s : ℤ) → s ≤ℤ pos 0 → limited l s ≡ s
+excess-untouched l (pos s) h = not-above-untouched l (pos s) (leZ-yes (le→leb s l (omega (arith, leb→le s 0 (h .le)))))
+excess-untouched l (negsuc x) h = not-above-untouched l (negsuc x) (leZ-yes tt)
+
+pub quarters-at-most : (class : ℕ) → quarters class ≤ 4
+unfolding quarters
+quarters-at-most class = go (eqb class 0) (eqb class 1)
+  where
+    go : (a b : Bool) → cond a 2 (cond b 3 4) ≤ 4
+    go true b = omega arith
+    go false true = omega arith
+    go false false = omega arith
+
+pub limit-at-most : (u class : ℕ) → limit u class ≤ u
+unfolding limit
+limit-at-most u class = div-le-of-le-mul 4 (omega (arith, mul-le-mul-left {n = 4} u (quarters-at-most class)))
+
+pub limited-size : (l : ℕ) (s : ℤ) → natAbs (limited l s) ≤ natAbs s
+unfolding limited
+limited-size l (pos s) = go (ltb l s) refl
+  where
+    go : (t : Bool) → ltb l s ≡ t → natAbs (cond t (pos l) (pos s)) ≤ s
+    go true q = omega (arith, ltb-true l s q)
+    go false q = le-refl s
+limited-size l (negsuc x) = le-refl (suc x)
+
+pub unit-shortfall-size : (u : UnitFacts) (t : ℕ) → natAbs (unitShortfall u t) ≤ t
+unfolding unitShortfall
+unit-shortfall-size u t =
+    le-trans (difference-size (unforced t (u .f)) _)
+    (max-le (unforced-at-most t (u .f)) (available-at-most t (u .installed .0) (u .g) (u .sh) (u .foh) (u .d)))
+
+pub limited-shortfall-size : (u : UnitFacts) (v days : ℕ) → natAbs (limitedShortfall u v days) ≤ u .installed .0
+unfolding limitedShortfall
+limited-shortfall-size u v days =
+    let t : ℕ = committed (u .installed .0) (u .e) v days in
+    le-trans (limited-size (unitLimit u) (unitShortfall u t)) (le-trans (unit-shortfall-size u t) (committed-at-most _ _ _ _))
+
+-- what a unit's facts in range have
+pub record UnitRange (u : UnitFacts) : Type 0 where
+  pub installed-from : 1 ≤ u .installed .0
+  pub installed-to : u .installed .0 ≤ 5000000
+  pub e-to : u .e ≤ 99999
+  pub f-to : u .f ≤ 99999
+  pub g-to : u .g ≤ 99999
+  pub class-to : u .class ≤ 2
+  pub sh-to : u .sh ≤ 8784
+  pub foh-to : u .foh ≤ 8784
+  pub d-to : u .d ≤ u .sh * u .installed .0
+
+pub unit-range : (u : UnitFacts) → unitInRange u ≡ true → UnitRange u
+unfolding unitInRange
+unit-range u q =
+    let (i, q₁) = and-eq-true-iff _ _ .0 q in
+    let (e, q₂) = and-eq-true-iff _ _ .0 q₁ in
+    let (f, q₃) = and-eq-true-iff _ _ .0 q₂ in
+    let (g, q₄) = and-eq-true-iff _ _ .0 q₃ in
+    let (class, q₅) = and-eq-true-iff _ _ .0 q₄ in
+    let (sh, q₆) = and-eq-true-iff _ _ .0 q₅ in
+    let (foh, d) = and-eq-true-iff _ _ .0 q₆ in
+    record {
+      installed-from = within-from 1 5000000 _ i;
+      installed-to = within-to 1 5000000 _ i;
+      e-to = leb-true _ _ e;
+      f-to = leb-true _ _ f;
+      g-to = leb-true _ _ g;
+      class-to = leb-true _ _ class;
+      sh-to = leb-true _ _ sh;
+      foh-to = leb-true _ _ foh;
+      d-to = leb-true _ _ d;
+    }
+
+-- what watt-days and days in range have
+pub record YearRange (v days : ℕ) : Type 0 where
+  pub v-to : v ≤ 117120000000
+  pub days-from : 365 ≤ days
+  pub days-to : days ≤ 366
+
+pub year-range : (v days : ℕ) → yearInRange v days ≡ true → YearRange v days
+unfolding yearInRange
+year-range v days q =
+    let (e, d) = and-eq-true-iff _ _ .0 q in
+    record { v-to = leb-true _ _ e; days-from = within-from 365 366 _ d; days-to = within-to 365 366 _ d }
+
+-- what an area's facts in range have
+pub record AreaRange (N : ℕ → ℤ) (price days : ℕ) (o : ℕ → ℕ) : Type 0 where
+  pub shortfalls-to : sumBelow 16 (λ p. above (N p)) ≤ 160000000
+  pub excesses-to : sumBelow 16 (λ p. below (N p)) ≤ 160000000
+  pub price-to : price ≤ 50000
+  pub days-to : days ≤ 366
+  pub obligations-to : sumBelow 16 o ≤ 1600000000
+
+pub area-range : (N : ℕ → ℤ) (price days : ℕ) (o : ℕ → ℕ) → areaInRange N price days o ≡ true → AreaRange N price days o
+unfolding areaInRange
+area-range N price days o q =
+    let (s, q₁) = and-eq-true-iff _ _ .0 q in
+    let (x, q₂) = and-eq-true-iff _ _ .0 q₁ in
+    let (p, q₃) = and-eq-true-iff _ _ .0 q₂ in
+    let (d, w) = and-eq-true-iff _ _ .0 q₃ in
+    record {
+      shortfalls-to = leb-true _ _ s;
+      excesses-to = leb-true _ _ x;
+      price-to = leb-true _ _ p;
+      days-to = leb-true _ _ d;
+      obligations-to = leb-true _ _ w;
+    }

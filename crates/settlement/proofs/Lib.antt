@@ -1,0 +1,10 @@
+pub mod Lists
+pub mod Signs
+pub mod Sums
+pub mod SignedSums
+pub mod Sizes
+pub mod Splits
+pub mod Deals
+pub mod Capacities
+pub mod Monies
+pub mod Bounds

@@ -1,0 +1,63 @@
+-- Laws of lists by their elements, and of a loop that fills an array from its start.
+use mathlib.Core.Path.{_≡_, refl, sym, ap, _∙_}
+use mathlib.Core.List.{List, [], _∷_, _++_}
+use mathlib.Core.Bool.{Bool, true, false}
+use Prim.Native.Nat.{ℕ, zero, suc, _+_, _≤_, _<_}
+use native.Mathlib.Nat.{not-suc-le-zero, zero-add, add-zero}
+use native.Mathlib.Numerals.{add-one}
+use native.Mathlib.Omega.{arith}
+use lib.Dec.{ltb}
+use lib.ListN.{length, getD, set, take, length-append, length-set, List·getD-append}
+use lib.Seq.{take-suc-set, take-all, getD-append-add}
+use borrow.Author.Tests.{ltb-true, ltb-false}
+use Rattle.calendar.specs.Sum.{sumBelow}
+use Rattle.settlement.specs.Lists.{listBelow, element}
+
+module _ {A : Type 0} where
+  pub length-below : (n : ℕ) (f : ℕ → A) → length (listBelow n f) ≡ n
+  unfolding listBelow
+  length-below zero f = refl
+  length-below (suc n) f = simp (length-append, length-below n f) (add-one n)
+
+  pub element-below : (n : ℕ) (f : ℕ → A) (k : ℕ) (d : A) → k < n → getD (listBelow n f) k d ≡ f k
+  unfolding listBelow
+  element-below zero f k d h = absurd (not-suc-le-zero h)
+  element-below (suc n) f k d h = go (ltb k n) refl (element-below n f k d)
+    where
+      go : (t : Bool) → ltb k n ≡ t → (k < n → getD (listBelow n f) k d ≡ f k) → getD (listBelow n f ++ (f n ∷ [])) k d ≡ f k
+      go true q earlier =
+          let b : k < length (listBelow n f) = rw (length-below n f) (ltb-true k n q) in
+          List·getD-append (listBelow n f) (f n ∷ []) d k b ∙ earlier (ltb-true k n q)
+      go false q earlier =
+          let e : k ≡ n = omega (arith, ltb-false k n q) in
+          let l : k ≡ length (listBelow n f) + 0 = e ∙ sym (length-below n f) ∙ sym (add-zero (length (listBelow n f))) in
+          ap (λ (j : ℕ). getD (listBelow n f ++ (f n ∷ [])) j d) l ∙ getD-append-add (listBelow n f) (f n ∷ []) 0 d ∙ ap f (sym e)
+
+  -- the same elements make the same list
+  pub list-same : (n : ℕ) (f g : ℕ → A) → ((k : ℕ) → k < n → f k ≡ g k) → listBelow n f ≡ listBelow n g
+  unfolding listBelow
+  list-same zero f g h = refl
+  list-same (suc n) f g h = rw (list-same n f g (λ k b. h k (omega arith)), h n (omega arith))
+
+  -- the first i places of out, of n, hold what f gives
+  pub record Filled (n : ℕ) (f : ℕ → A) (out : List A) (i : ℕ) : Type 0 where
+    pub inside : i ≤ n
+    pub long : length out ≡ n
+    pub made : take i out ≡ listBelow i f
+
+  module _ {n : ℕ} {f : ℕ → A} {out : List A} where
+    pub filled-none : length out ≡ n → Filled n f out 0
+    unfolding listBelow
+    filled-none l = record { inside = omega arith; long = l; made = refl }
+
+    pub filled-more : {i : ℕ} {v : A} → Filled n f out i → i < n → v ≡ f i → Filled n f (set out i v) (i + 1)
+    unfolding listBelow
+    filled-more {i} {v} h b e =
+        record {
+          inside = omega arith;
+          long = length-set out i v ∙ h .long;
+          made = rw (add-one i, take-suc-set out i v (omega (arith, h .long)), h .made, e);
+        }
+
+    pub filled-all : {i : ℕ} → Filled n f out i → n ≤ i → out ≡ listBelow n f
+    filled-all {i} h b = let e : i ≡ n = omega (arith, h .inside) in sym (take-all i out (omega (arith, h .long))) ∙ h .made ∙ rw e

@@ -1,0 +1,44 @@
+-- Laws of the sizes of signed amounts, of differences and of sums.
+use mathlib.Core.Path.{_≡_, refl}
+use Prim.Native.Nat.{ℕ, zero, suc, _+_, _≤_, max, zero-le}
+use native.Mathlib.Nat.{le-refl}
+use native.Mathlib.Omega.{arith}
+use lib.IntN.{ℤ, pos, negsuc, natAbs, subℕ, negℤ, _+ℤ_}
+use Rattle.calendar.specs.Sum.{sumBelow}
+use Rattle.settlement.specs.Signed.{above, below, sumBelowℤ}
+use Rattle.settlement.specs.Split.{split, splitSigned}
+use Rattle.settlement.proofs.SignedSums.{above-difference, below-difference}
+
+pub size-parts : (z : ℤ) → natAbs z ≡ above z + below z
+unfolding above below
+size-parts (pos n) = omega arith
+size-parts (negsuc n) = omega arith
+
+pub above-size : (z : ℤ) → above z ≤ natAbs z
+above-size z = omega (arith, size-parts z)
+
+pub below-size : (z : ℤ) → below z ≤ natAbs z
+below-size z = omega (arith, size-parts z)
+
+pub difference-size : (a b : ℕ) → natAbs (subℕ a b) ≤ max a b
+difference-size a b = omega (arith, size-parts (subℕ a b), above-difference a b, below-difference a b)
+
+add-size : (a b : ℤ) → natAbs (a +ℤ b) ≤ natAbs a + natAbs b
+add-size (pos a) (pos b) = le-refl (a + b)
+add-size (pos a) (negsuc b) = omega (arith, difference-size a (suc b))
+add-size (negsuc a) (pos b) = omega (arith, difference-size b (suc a))
+add-size (negsuc a) (negsuc b) = omega arith
+
+pub sum-size : (n : ℕ) (f : ℕ → ℤ) → natAbs (sumBelowℤ n f) ≤ sumBelow n (λ k. natAbs (f k))
+unfolding sumBelow sumBelowℤ
+sum-size zero f = zero-le
+sum-size (suc n) f = omega (arith, add-size (sumBelowℤ n f) (f n), sum-size n f)
+
+pub share-size : (z : ℤ) (n : ℕ) (w : ℕ → ℕ) (k : ℕ) → natAbs (splitSigned z n w k) ≡ split (natAbs z) n w k
+unfolding splitSigned
+share-size (pos a) n w k = refl
+share-size (negsuc a) n w k = negated (split (suc a) n w k)
+  where
+    negated : (x : ℕ) → natAbs (negℤ (pos x)) ≡ x
+    negated zero = refl
+    negated (suc x) = refl

@@ -1,0 +1,41 @@
+-- Laws of sums, beside those of the calendar.
+use mathlib.Core.Path.{_≡_, refl, sym}
+use Prim.Native.Nat.{ℕ, zero, suc, _+_, _*_, _≤_, _<_}
+use native.Mathlib.Nat.{le-refl, suc-mul, zero-mul, mul-le-mul-right}
+use native.Mathlib.Omega.{arith}
+use Rattle.calendar.specs.Sum.{sumBelow}
+
+-- terms that are the same have the same sum
+pub sum-same : (n : ℕ) (f g : ℕ → ℕ) → ((k : ℕ) → k < n → f k ≡ g k) → sumBelow n f ≡ sumBelow n g
+unfolding sumBelow
+sum-same zero f g h = refl
+sum-same (suc n) f g h = omega (arith, sum-same n f g (λ k b. h k (omega arith)), h n (omega arith))
+
+pub sum-at-most : (n : ℕ) (f g : ℕ → ℕ) → ((k : ℕ) → k < n → f k ≤ g k) → sumBelow n f ≤ sumBelow n g
+unfolding sumBelow
+sum-at-most zero f g h = le-refl 0
+sum-at-most (suc n) f g h = omega (arith, sum-at-most n f g (λ k b. h k (omega arith)), h n (omega arith))
+
+pub sum-add : (n : ℕ) (f g : ℕ → ℕ) → sumBelow n (λ k. f k + g k) ≡ sumBelow n f + sumBelow n g
+unfolding sumBelow
+sum-add zero f g = refl
+sum-add (suc n) f g = omega (arith, sum-add n f g)
+
+-- n times b
+pub sum-fixed : (n b : ℕ) → sumBelow n (λ k. b) ≡ n * b
+unfolding sumBelow
+sum-fixed zero b = sym (zero-mul b)
+sum-fixed (suc n) b = rw (suc-mul, sum-fixed n b)
+
+pub sum-none : (n : ℕ) → sumBelow n (λ k. 0) ≡ 0
+sum-none n = omega (arith, sum-fixed n 0)
+
+-- rows first or columns first
+pub sum-exchange : (n m : ℕ) (f : ℕ → ℕ → ℕ) → sumBelow n (λ i. sumBelow m (f i)) ≡ sumBelow m (λ j. sumBelow n (λ i. f i j))
+unfolding sumBelow
+sum-exchange zero m f = sym (sum-none m)
+sum-exchange (suc n) m f = rw (sum-exchange n m f) (sym (sum-add m (λ j. sumBelow n (λ i. f i j)) (f n)))
+
+-- at most m terms of at most b each
+pub sum-bounded : (n m b : ℕ) (f : ℕ → ℕ) → n ≤ m → ((k : ℕ) → f k ≤ b) → sumBelow n f ≤ m * b
+sum-bounded n m b f few each = omega (arith, sum-at-most n f (λ k. b) (λ k h. each k), sum-fixed n b, mul-le-mul-right b few)

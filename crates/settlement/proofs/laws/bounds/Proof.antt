@@ -1,0 +1,25 @@
+use Rattle.settlement.proofs.Bounds as bounds
+use Rattle.settlement.proofs.laws.bounds.Statement.{statement}
+use Rattle.settlement.proofs.laws.bounds.Tie as tie
+
+returns : tie.Need-returns
+returns c =
+    record {
+      watt-days-bound = bounds.watt-days-bound;
+      committed-bound = bounds.committed-bound;
+      rated-bound = bounds.rated-bound;
+      shortfall-bound = bounds.shortfall-bound;
+      split-bound = bounds.split-bound;
+      shortfalls-bound = bounds.shortfalls-bound;
+      excesses-bound = bounds.excesses-bound;
+      priced-bound = bounds.priced-bound;
+      charges-bound = bounds.charges-bound;
+      ceilings-bound = bounds.ceilings-bound;
+      credits-fit = bounds.credits-fit;
+      load-shares-fit = bounds.load-shares-fit;
+      due-above = bounds.due-above;
+      due-below = bounds.due-below;
+    }
+
+pub bounds-spec : {M : Type 1} → statement M
+bounds-spec = tie.close (tie.spec returns)

@@ -1,0 +1,15 @@
+use Rattle.settlement.proofs.Capacities.{limited-at-most, not-above-untouched, excess-untouched, available-at-most}
+use Rattle.settlement.proofs.laws.shortfalls.Statement.{statement}
+use Rattle.settlement.proofs.laws.shortfalls.Tie as tie
+
+returns : tie.Need-returns
+returns c =
+    record {
+      limited-at-most = limited-at-most;
+      not-above-untouched = not-above-untouched;
+      excess-untouched = excess-untouched;
+      available-at-most = available-at-most;
+    }
+
+pub shortfalls-spec : {M : Type 1} → statement M
+shortfalls-spec = tie.close (tie.spec returns)

@@ -1,0 +1,74 @@
+-- Area money. 01, the section of that name; 002 (j) and (k). Party number p of 01 is p − 1 here.
+-- The facts of an area: each party's net N and obligation, the price, and the days of the delivery year.
+use mathlib.Core.Bool.{Bool, false, cond, _&&_}
+use mathlib.Core.List.{List}
+use Prim.Native.Nat.{ℕ, _+_, _-_, _*_, _/_}
+use lib.IntN.{ℤ, pos, subℕ}
+use lib.Dec.{eqb, ltb, leb}
+use Rattle.calendar.specs.Sum.{sumBelow}
+use Rattle.settlement.specs.declared.UnforcedWatts.{UnforcedWatts}
+use Rattle.settlement.specs.declared.money.AreaMoney.{AreaMoney}
+use Rattle.settlement.specs.Lists.{listBelow, element}
+use Rattle.settlement.specs.Signed.{above, below}
+use Rattle.settlement.specs.Quantities.{cents}
+use Rattle.settlement.specs.Split.{split}
+use Rattle.settlement.specs.Shares.{wattsOf}
+
+-- N × price × days / 1,000,000: cents for so many watts at a price in cents per MW-day
+unfoldable pub priced : ℕ → ℕ → ℕ → ℕ
+priced watts price days = watts * price * days / 1000000
+
+module _ (N : ℕ → ℤ) (price days : ℕ) where
+  -- C: the charge where N > 0
+  unfoldable pub charge : ℕ → ℕ
+  charge p = priced (above (N p)) price days
+
+  -- M: the ceiling where N < 0
+  unfoldable pub ceiling : ℕ → ℕ
+  ceiling p = priced (below (N p)) price days
+
+  -- R: the sum of C
+  unfoldable pub charges : ℕ
+  charges = sumBelow 16 charge
+
+  -- the sum of M
+  unfoldable pub ceilings : ℕ
+  ceilings = sumBelow 16 ceiling
+
+  -- if R is below the sum of M, R is split by M in party order; otherwise each gets its M
+  unfoldable pub credit : ℕ → ℕ
+  credit p = cond (ltb charges ceilings) (split charges 16 ceiling p) (ceiling p)
+
+  -- what is left of R; nothing where R is below the sum of M
+  unfoldable pub left : ℕ
+  left = charges - ceilings
+
+  module _ (obligation : ℕ → ℕ) where
+    -- what is left is split over parties by obligation
+    unfoldable pub loadShare : ℕ → ℕ
+    loadShare p = split left 16 obligation p
+
+    -- due = credit + load share − charge
+    unfoldable pub due : ℕ → ℤ
+    due p = subℕ (credit p + loadShare p) (charge p)
+
+    -- refusal 11: money is left over and the area's obligations add up to 0
+    unfoldable pub isUnplaced : Bool
+    isUnplaced = ltb 0 left && eqb (sumBelow 16 obligation) 0
+
+    -- The ranges of 01, Records, and what follows from them: 32 units of 5,000,000 W in an area, and 16 obligations of
+    -- 100,000,000 W.
+    unfoldable pub areaInRange : Bool
+    areaInRange =
+        leb (sumBelow 16 (λ p. above (N p))) 160000000 && (leb (sumBelow 16 (λ p. below (N p))) 160000000
+        && (leb price 50000 && (leb days 366 && leb (sumBelow 16 obligation) 1600000000)))
+
+-- What the public function answers: whether refusal 11 fits, and the sixteen dues. Out of these ranges it does not fit
+-- and the dues are 0.
+unfoldable pub moneyAnswer : List UnforcedWatts → ℕ → ℕ → List ℕ → AreaMoney
+moneyAnswer nets price days obligations =
+    cond (areaInRange (wattsOf nets) price days (element obligations))
+    (record {
+      unplaced = isUnplaced (wattsOf nets) price days (element obligations);
+      dues = listBelow 16 (λ p. cents (due (wattsOf nets) price days (element obligations) p)) })
+    (record { unplaced = false; dues = listBelow 16 (λ p. cents (pos 0)) })
