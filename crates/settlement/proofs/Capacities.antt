@@ -1,6 +1,6 @@
 -- Laws of T, of unforced watts, P and S, of the limit, and what the tests of ranges say.
 use mathlib.Core.Path.{_≡_, refl}
-use mathlib.Core.Bool.{Bool, true, false, cond, and-eq-true-iff}
+use mathlib.Core.Bool.{Bool, true, false, cond, _&&_, and-eq-true-iff}
 use Prim.Native.Nat.{ℕ, suc, _+_, _-_, _*_, _≤_, max}
 use native.Mathlib.Nat.{le-refl, le-trans, min-le-left, max-le, mul-le-mul-left, mul-comm, div-le-of-le-mul}
 use native.Mathlib.Omega.{arith}
@@ -13,7 +13,7 @@ use Rattle.calendar.proofs.Tests.{within-from, within-to}
 use Rattle.settlement.specs.declared.capacity.UnitFacts.{UnitFacts}
 use Rattle.settlement.specs.Signed.{above, below}
 use Rattle.settlement.specs.Capacity.{committed, unforced, peakRated, available, quarters, limit, limited}
-use Rattle.settlement.specs.Capacity.{unitShortfall, unitLimit, limitedShortfall, unitInRange, yearInRange}
+use Rattle.settlement.specs.Capacity.{unitShortfall, unitLimit, limitedShortfall, ratesInRange, hoursInRange, unitInRange, yearInRange}
 use Rattle.settlement.specs.Money.{areaInRange}
 use Rattle.settlement.proofs.Sizes.{difference-size}
 
@@ -106,15 +106,15 @@ pub record UnitRange (u : UnitFacts) : Type 0 where
   pub d-to : u .d ≤ u .sh * u .installed .0
 
 pub unit-range : (u : UnitFacts) → unitInRange u ≡ true → UnitRange u
-unfolding unitInRange
+unfolding unitInRange ratesInRange hoursInRange
 unit-range u q =
     let (i, q₁) = and-eq-true-iff _ _ .0 q in
-    let (e, q₂) = and-eq-true-iff _ _ .0 q₁ in
+    let (rates, hours) = and-eq-true-iff _ _ .0 q₁ in
+    let (e, q₂) = and-eq-true-iff _ _ .0 rates in
     let (f, q₃) = and-eq-true-iff _ _ .0 q₂ in
-    let (g, q₄) = and-eq-true-iff _ _ .0 q₃ in
-    let (class, q₅) = and-eq-true-iff _ _ .0 q₄ in
-    let (sh, q₆) = and-eq-true-iff _ _ .0 q₅ in
-    let (foh, d) = and-eq-true-iff _ _ .0 q₆ in
+    let (g, class) = and-eq-true-iff _ _ .0 q₃ in
+    let (sh, q₄) = and-eq-true-iff _ _ .0 hours in
+    let (foh, d) = and-eq-true-iff _ _ .0 q₄ in
     record {
       installed-from = within-from 1 5000000 _ i;
       installed-to = within-to 1 5000000 _ i;
@@ -138,6 +138,12 @@ unfolding yearInRange
 year-range v days q =
     let (e, d) = and-eq-true-iff _ _ .0 q in
     record { v-to = leb-true _ _ e; days-from = within-from 365 366 _ d; days-to = within-to 365 366 _ d }
+
+pub both-true : {a b : Bool} → (a && b) ≡ true → (a ≡ true) × (b ≡ true)
+both-true {a} {b} q = and-eq-true-iff a b .0 q
+
+pub ranges : (u : UnitFacts) (v days : ℕ) → (unitInRange u && yearInRange v days) ≡ true → UnitRange u × YearRange v days
+ranges u v days q = let (unit, year) = both-true q in (unit-range u unit, year-range v days year)
 
 -- what an area's facts in range have
 pub record AreaRange (N : ℕ → ℤ) (price days : ℕ) (o : ℕ → ℕ) : Type 0 where

@@ -8,3 +8,4 @@ pub mod Deals
 pub mod Capacities
 pub mod Monies
 pub mod Bounds
+pub mod Formulas

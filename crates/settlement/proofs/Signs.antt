@@ -1,6 +1,6 @@
 -- Signed numbers as the machine holds them: what its tests, casts and negations say of the parts above and below zero.
 use mathlib.Core.Path.{_≡_, refl, sym, subst, _∙_}
-use mathlib.Core.Bool.{Bool, true, false}
+use mathlib.Core.Bool.{Bool, true, false, cond}
 use Prim.Native.Nat.{ℕ, zero, suc, _+_, _-_, _^_, _≤_, _<_}
 use native.Mathlib.Nat.{not-suc-le-zero}
 use native.Mathlib.Numerals.{add-one}
@@ -113,3 +113,31 @@ module _ {d : ℕ} (h : d < 2 ^ 63) where
 
   pub negated-is : read (pos 0 -ℤ toZ w64 d) ≡ negℤ (pos d)
   negated-is = toZ-ofZ negated-fits ∙ rw (toZ-pos w64 h, +ℤ-idl)
+
+-- a size that was worked out, with its bound
+pub above-bounded : {x : ℤ} {r : ℕ} → SFits w64 x → r ≡ above x → (r ≡ above x) × (r < 2 ^ 63)
+unfolding above
+above-bounded {x = pos n} f e = (e, omega (arith, f .sfits))
+above-bounded {x = negsuc n} f e = (e, omega arith)
+
+pub below-bounded : {x : ℤ} {r : ℕ} → SFits w64 x → r ≡ below x → (r ≡ below x) × (r ≤ 2 ^ 63)
+unfolding below
+below-bounded {x = pos n} f e = (e, omega arith)
+below-bounded {x = negsuc n} f e = (e, omega (arith, f .sfits))
+
+-- a signed field, read back from its bits, is the field
+pub above-read : (x : ℤ) {r : ℕ} → mag x < 2 ^ 63 → (r ≡ above (read x)) × (r < 2 ^ 63) → (r ≡ above x) × (r < 2 ^ 63)
+above-read x b h = rw (toZ-ofZ {w = w64} {z = x} (record { sfits = b })) at h
+
+pub below-read : (x : ℤ) {r : ℕ} → mag x < 2 ^ 63 → (r ≡ below (read x)) × (r ≤ 2 ^ 63) → (r ≡ below x) × (r ≤ 2 ^ 63)
+below-read x b h = rw (toZ-ofZ {w = w64} {z = x} (record { sfits = b })) at h
+
+difference-fits : (a b : ℕ) → a < 2 ^ 63 → b < 2 ^ 63 → SFits w64 (subℕ a b)
+difference-fits a b ha hb = go (ltb a b) refl
+  where
+    go : (t : Bool) → ltb a b ≡ t → SFits w64 (cond t (negsuc (b - suc a)) (pos (a - b)))
+    go true q = record { sfits = omega arith }
+    go false q = record { sfits = omega arith }
+
+pub difference-read : (a b : ℕ) {z : ℤ} → (a < 2 ^ 63) × (b < 2 ^ 63) → z ≡ subℕ a b → read z ≡ subℕ a b
+difference-read a b h e = rw e (toZ-ofZ (difference-fits a b (h .0) (h .1)))

@@ -79,10 +79,14 @@ limitedShortfall u v days = limited (unitLimit u) (unitShortfall u (committed (u
 
 -- The ranges of 01, Records, and what follows from them: a year has at most 366 × 24 = 8,784 hours, each derating is
 -- below I and counts in an hour of SH, and 64 commitments of 5,000,000 W on 366 days make 117,120,000,000 watt-days.
+unfoldable pub ratesInRange : UnitFacts → Bool
+ratesInRange u = leb (u .e) 99999 && (leb (u .f) 99999 && (leb (u .g) 99999 && leb (u .class) 2))
+
+unfoldable pub hoursInRange : UnitFacts → Bool
+hoursInRange u = leb (u .sh) 8784 && (leb (u .foh) 8784 && leb (u .d) (u .sh * u .installed .0))
+
 unfoldable pub unitInRange : UnitFacts → Bool
-unitInRange u =
-    within 1 5000000 (u .installed .0) && (leb (u .e) 99999 && (leb (u .f) 99999 && (leb (u .g) 99999
-    && (leb (u .class) 2 && (leb (u .sh) 8784 && (leb (u .foh) 8784 && leb (u .d) (u .sh * u .installed .0)))))))
+unitInRange u = within 1 5000000 (u .installed .0) && (ratesInRange u && hoursInRange u)
 
 unfoldable pub yearInRange : ℕ → ℕ → Bool
 yearInRange v days = leb v 117120000000 && within 365 366 days

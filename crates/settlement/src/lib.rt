@@ -14,6 +14,7 @@ pub struct UnforcedWatts(i64);
 pub struct Cents(i64);
 
 mod signed;
+mod amounts;
 pub mod capacity;
 pub mod split;
 pub mod shares;

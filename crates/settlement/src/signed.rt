@@ -1,17 +1,17 @@
 // The parts of a signed number and the difference of two unsigned ones. All sums are worked out between these.
 ghost use mathlib.Core.Path.{_≡_};
-ghost use Prim.Native.Nat.{_<_, _^_};
+ghost use Prim.Native.Nat.{_≤_, _<_, _^_};
 ghost use lib.IntN.{subℕ};
 ghost use Rattle.settlement.specs.Signed.{above, below};
 
 pub fn above(x: i64) -> u64
-    ensures { λ r. ⌜ r ≡ above x ⌝ }
+    ensures { λ r. ⌜ (r ≡ above x) × (r < 2 ^ 63) ⌝ }
 {
     if 0 < x { x as u64 } else { 0 }
 }
 
 pub fn below(x: i64) -> u64
-    ensures { λ r. ⌜ r ≡ below x ⌝ }
+    ensures { λ r. ⌜ (r ≡ below x) × (r ≤ 2 ^ 63) ⌝ }
 {
     if x < 0 { (-(x + 1)) as u64 + 1 } else { 0 }
 }

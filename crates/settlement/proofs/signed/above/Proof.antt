@@ -1,4 +1,4 @@
-use Rattle.settlement.proofs.Signs.{positive-cast, positive-is, not-positive}
+use Rattle.settlement.proofs.Signs.{positive-cast, positive-is, not-positive, above-bounded}
 use Rattle.settlement.proofs.signed.above.Statement.{statement}
 use Rattle.settlement.proofs.signed.above.Tie as tie
 use Rattle.settlement.proofs.signed.above.Reads as reads
@@ -10,11 +10,11 @@ cast-result c = positive-cast (c .before .fits .x) (c .if1 .taken)
 
 -- src/signed.rt:7:1
 returns : tie.Need-returns
-returns c = positive-is (c .before .fits .x) (c .if1 .taken)
+returns c = above-bounded (c .before .fits .x) (positive-is (c .before .fits .x) (c .if1 .taken))
 
 -- src/signed.rt:7:1
 returns-2 : tie.Need-returns-2
-returns-2 c = not-positive (c .before .fits .x) (c .if1 .left)
+returns-2 c = above-bounded (c .before .fits .x) (not-positive (c .before .fits .x) (c .if1 .left))
 
 pub above-spec : {M : Type 1} → statement M
 above-spec = tie.close (tie.spec cast-result returns returns-2)

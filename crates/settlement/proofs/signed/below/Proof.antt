@@ -1,4 +1,4 @@
-use Rattle.settlement.proofs.Signs.{negative, not-negative}
+use Rattle.settlement.proofs.Signs.{negative, not-negative, below-bounded}
 use Rattle.settlement.proofs.signed.below.Statement.{statement}
 use Rattle.settlement.proofs.signed.below.Tie as tie
 use Rattle.settlement.proofs.signed.below.Reads as reads
@@ -22,11 +22,11 @@ add-result-2 c = negative (c .before .fits .x) (c .if1 .taken) .size
 
 -- src/signed.rt:13:1
 returns : tie.Need-returns
-returns c = negative (c .before .fits .x) (c .if1 .taken) .is
+returns c = below-bounded (c .before .fits .x) (negative (c .before .fits .x) (c .if1 .taken) .is)
 
 -- src/signed.rt:13:1
 returns-2 : tie.Need-returns-2
-returns-2 c = not-negative (c .before .fits .x) (c .if1 .left)
+returns-2 c = below-bounded (c .before .fits .x) (not-negative (c .before .fits .x) (c .if1 .left))
 
 pub below-spec : {M : Type 1} → statement M
 below-spec = tie.close (tie.spec add-result sub-result cast-result add-result-2 returns returns-2)
