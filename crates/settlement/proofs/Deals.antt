@@ -12,8 +12,8 @@ use Rattle.calendar.specs.Sum.{sumBelow}
 use Rattle.calendar.proofs.Sums.{sum-one-more, sum-grows}
 use Rattle.settlement.specs.Lists.{listBelow, element}
 use Rattle.settlement.specs.Split.{firstShares, split, splitAnswer}
-use Rattle.settlement.proofs.Lists.{list-same}
-use Rattle.settlement.proofs.Splits.{floor-grows, no-amount, no-weights}
+use Rattle.settlement.proofs.Lists.{element-below, list-same}
+use Rattle.settlement.proofs.Splits.{floor-grows, share-at-most, no-amount, no-weights}
 
 -- the sum of a list's elements
 abbrev pub total : List ℕ → ℕ
@@ -104,3 +104,26 @@ answer-none a ws n {z} isz e = go (ltb (a * total ws) (2 ^ 63)) refl
     go : (t : Bool) → ltb (a * total ws) (2 ^ 63) ≡ t → listBelow n (λ k. 0) ≡ cond t (listBelow n shares) (listBelow n (λ k. 0))
     go false q = refl
     go true q = list-same n (λ k. 0) shares (λ k b. nothing (ltb 0 a) (ltb 0 z) refl refl (ltb-true (a * total ws) (2 ^ 63) q) k)
+
+pub capped-sixteen : (ws : List ℕ) (m : ℕ) {v : ℕ} → length ws ≡ 16 → v ≡ min (total ws) m → v ≡ min (sumBelow 16 (element ws)) m
+capped-sixteen ws m sixteen e = e ∙ rw sixteen
+
+-- the shares of sixteen parties, as `split_by_party` answers them
+module _ (a : ℕ) (ws : List ℕ) (sixteen : length ws ≡ 16) (fits : a * sumBelow 16 (element ws) < 2 ^ 63) where
+  pub party-shares : splitAnswer a ws 16 ≡ listBelow 16 (split a 16 (element ws))
+  party-shares =
+      answer-shares a ws 16 (rw sixteen fits) ∙ ap (λ (n : ℕ). listBelow 16 (split a n (element ws))) sixteen
+
+  pub party-share : {r : List ℕ} → r ≡ splitAnswer a ws 16 → (k : ℕ) → k < 16 → element r k ≡ split a 16 (element ws) k
+  party-share e k h = ap (λ (l : List ℕ). element l k) (e ∙ party-shares) ∙ element-below 16 (split a 16 (element ws)) k 0 h
+
+  pub party-share-fits : {r : List ℕ} → r ≡ splitAnswer a ws 16 → (k : ℕ) → k < 16 → element r k < 2 ^ 63
+  party-share-fits e k h = rw (party-share e k h) (go (ltb 0 (sumBelow 16 (element ws))) refl)
+    where
+      go : (t : Bool) → ltb 0 (sumBelow 16 (element ws)) ≡ t → split a 16 (element ws) k < 2 ^ 63
+      go true q =
+          let some : a ≤ a * sumBelow 16 (element ws) = le-mul-of-pos-right a (ltb-true 0 (sumBelow 16 (element ws)) q) in
+          omega (arith, share-at-most a 16 (element ws) k h)
+      go false q =
+          let none : sumBelow 16 (element ws) ≡ 0 = omega (arith, ltb-false 0 (sumBelow 16 (element ws)) q) in
+          omega (arith, no-weights a 16 (element ws) k none)

@@ -9,3 +9,4 @@ pub mod Capacities
 pub mod Monies
 pub mod Bounds
 pub mod Formulas
+pub mod Nets

@@ -6,7 +6,7 @@ use native.Mathlib.Omega.{arith}
 use lib.IntN.{ℤ, pos, negsuc, natAbs, subℕ, negℤ, _+ℤ_}
 use Rattle.calendar.specs.Sum.{sumBelow}
 use Rattle.settlement.specs.Signed.{above, below, sumBelowℤ}
-use Rattle.settlement.specs.Split.{split, splitSigned}
+use Rattle.settlement.specs.Split.{split, withSign, splitSigned}
 use Rattle.settlement.proofs.SignedSums.{above-difference, below-difference}
 
 pub size-parts : (z : ℤ) → natAbs z ≡ above z + below z
@@ -35,7 +35,7 @@ sum-size zero f = zero-le
 sum-size (suc n) f = omega (arith, add-size (sumBelowℤ n f) (f n), sum-size n f)
 
 pub share-size : (z : ℤ) (n : ℕ) (w : ℕ → ℕ) (k : ℕ) → natAbs (splitSigned z n w k) ≡ split (natAbs z) n w k
-unfolding splitSigned
+unfolding splitSigned withSign
 share-size (pos a) n w k = refl
 share-size (negsuc a) n w k = negated (split (suc a) n w k)
   where

@@ -10,7 +10,7 @@ use lib.Signed.{_≤ℤ_}
 use Rattle.calendar.specs.Sum.{sumBelow}
 use Rattle.calendar.proofs.Sums.{sum-one-more, sum-grows}
 use Rattle.settlement.specs.Signed.{above, below, sumBelowℤ}
-use Rattle.settlement.specs.Split.{firstShares, split, splitSigned}
+use Rattle.settlement.specs.Split.{firstShares, split, withSign, splitSigned}
 use Rattle.settlement.proofs.SignedSums.{above-negated, below-negated, one-side, signed-parts, signed-le, le-signed, sum-sameℤ, sum-differences}
 
 pub floor-grows : (x y z : ℕ) → x ≤ y → x / z ≤ y / z
@@ -73,12 +73,12 @@ pub share-at-most-weight : (a n : ℕ) (w : ℕ → ℕ) (k : ℕ) → a ≤ sum
 share-at-most-weight a n w k h = omega (arith, share-one-more a n w k, first-shares-by-weight a n w k h)
 
 pub above-share : (z : ℤ) (n : ℕ) (w : ℕ → ℕ) (k : ℕ) → above (splitSigned z n w k) ≡ split (above z) n w k
-unfolding splitSigned above below
+unfolding splitSigned withSign above below
 above-share (pos a) n w k = refl
 above-share (negsuc a) n w k = above-negated (pos (split (suc a) n w k)) ∙ sym (no-amount n w k)
 
 pub below-share : (z : ℤ) (n : ℕ) (w : ℕ → ℕ) (k : ℕ) → below (splitSigned z n w k) ≡ split (below z) n w k
-unfolding splitSigned above below
+unfolding splitSigned withSign above below
 below-share (pos a) n w k = sym (no-amount n w k)
 below-share (negsuc a) n w k = below-negated (pos (split (suc a) n w k))
 

@@ -1,8 +1,8 @@
 -- Split. 01, From a set to its shortfall, "Split".
 use mathlib.Core.Bool.{cond}
 use mathlib.Core.List.{List}
-use Prim.Native.Nat.{ℕ, suc, _+_, _-_, _*_, _/_, _^_}
-use lib.IntN.{ℤ, pos, negsuc, negℤ}
+use Prim.Native.Nat.{ℕ, _+_, _-_, _*_, _/_, _^_}
+use lib.IntN.{ℤ, pos, negsuc, negℤ, natAbs}
 use lib.Dec.{ltb}
 use lib.ListN.{length}
 use Rattle.calendar.specs.Sum.{sumBelow}
@@ -18,9 +18,12 @@ unfoldable pub split : ℕ → ℕ → (ℕ → ℕ) → ℕ → ℕ
 split a n w k = firstShares a n w (k + 1) - firstShares a n w k
 
 -- a signed amount is split by size and keeps its sign
+unfoldable pub withSign : ℤ → ℕ → ℤ
+withSign (pos a) size = pos size
+withSign (negsuc a) size = negℤ (pos size)
+
 unfoldable pub splitSigned : ℤ → ℕ → (ℕ → ℕ) → ℕ → ℤ
-splitSigned (pos a) n w k = pos (split a n w k)
-splitSigned (negsuc a) n w k = negℤ (pos (split (suc a) n w k))
+splitSigned z n w k = withSign z (split (natAbs z) n w k)
 
 -- The shares of a list of weights, for n places. The amount times the sum of the weights has to be below 2^63; where it
 -- is not, all shares are 0.

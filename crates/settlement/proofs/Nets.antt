@@ -1,0 +1,80 @@
+-- Laws of signs and of nets with one share more.
+use mathlib.Core.Path.{_≡_, refl, sym, ap, _∙_}
+use mathlib.Core.Bool.{Bool, true, false, cond, _&&_}
+use Prim.Native.Nat.{ℕ, zero, suc, _+_, _-_, _*_, _^_, _≤_, _<_, min}
+use native.Mathlib.Nat.{sub-zero, zero-mul}
+use native.Mathlib.Omega.{arith}
+use lib.IntN.{ℤ, pos, negsuc, natAbs, negℤ, subℕ, _+ℤ_}
+use lib.Dec.{leb}
+use borrow.Author.Tests.{le-leb, lt-leb, leb-true, leb-false}
+use Rattle.calendar.specs.Range.{within}
+use Rattle.settlement.specs.declared.capacity.UnitFacts.{UnitFacts}
+use Rattle.settlement.specs.Signed.{above, below}
+use Rattle.settlement.specs.Capacity.{limitedShortfall, unitInRange, yearInRange, shortfallAnswer}
+use Rattle.settlement.specs.Split.{withSign}
+use Rattle.settlement.specs.Shares.{netWith}
+use Rattle.settlement.proofs.Signs.{sub-positive, sub-negative}
+use Rattle.settlement.proofs.SignedSums.{signed-parts, add-differences}
+use Rattle.settlement.proofs.Capacities.{YearRange, both-true, ranges}
+use Rattle.settlement.proofs.Bounds.{split-bound}
+
+from-zero : (n : ℕ) → subℕ n 0 ≡ pos n
+from-zero n = sub-positive {a = n} {b = 0} (omega arith) ∙ ap pos (sub-zero n)
+
+to-zero : (n : ℕ) → subℕ 0 n ≡ negℤ (pos n)
+to-zero zero = refl
+to-zero (suc n) = sub-negative {a = 0} {b = suc n} (omega arith) ∙ ap (λ (k : ℕ). negℤ (pos k)) (sub-zero (suc n))
+
+pub sign-above : (z : ℤ) (n : ℕ) → below z ≡ 0 → subℕ n 0 ≡ withSign z n
+unfolding below withSign
+sign-above (pos a) n e = from-zero n
+sign-above (negsuc a) n e = absurd (omega arith)
+
+pub sign-below : (z : ℤ) (n : ℕ) → (below z ≡ 0 → ⊥) → subℕ 0 n ≡ withSign z n
+unfolding below withSign
+sign-below (pos a) n e = absurd (e refl)
+sign-below (negsuc a) n e = to-zero n
+
+pub net-too-large : (n s : ℤ) → 160000000 < natAbs n → pos 0 ≡ netWith n s
+unfolding netWith
+net-too-large n s h = simp (lt-leb (natAbs n) 160000000 h)
+
+pub share-too-large : (n s : ℤ) → natAbs n ≤ 160000000 → 160000000 < natAbs s → pos 0 ≡ netWith n s
+unfolding netWith
+share-too-large n s h k = simp (le-leb (natAbs n) 160000000 h, lt-leb (natAbs s) 160000000 k)
+
+pub net-more : (n s : ℤ) → natAbs n ≤ 160000000 → natAbs s ≤ 160000000 → subℕ (above n + above s) (below n + below s) ≡ netWith n s
+unfolding netWith
+net-more n s h k =
+    sym (add-differences (above n) (below n) (above s) (below s))
+    ∙ rw (← signed-parts n, ← signed-parts s) (simp (le-leb (natAbs n) 160000000 h, le-leb (natAbs s) 160000000 k))
+
+-- a capped sum of watt-days answers as the sum itself, and what it answers can be split
+module _ (u : UnitFacts) (days t : ℕ) {v : ℕ} (isv : v ≡ min t (2 ^ 64 - 1)) where
+  capped-range : yearInRange v days ≡ yearInRange t days
+  unfolding yearInRange
+  capped-range = go (leb t 117120000000) refl
+    where
+      go : (b : Bool) → leb t 117120000000 ≡ b → (leb v 117120000000 && within 365 366 days) ≡ (leb t 117120000000 && within 365 366 days)
+      go true q = let same : v ≡ t = omega (arith, leb-true t 117120000000 q) in rw same
+      go false q = rw (q, lt-leb v 117120000000 (omega (arith, leb-false t 117120000000 q)))
+
+  pub capped-shortfall : shortfallAnswer u v days ≡ shortfallAnswer u t days
+  unfolding shortfallAnswer
+  capped-shortfall = go (unitInRange u && yearInRange t days) refl
+    where
+      go : (b : Bool) → (unitInRange u && yearInRange t days) ≡ b
+          → cond (unitInRange u && yearInRange v days) (limitedShortfall u v days) (pos 0) ≡ cond (unitInRange u && yearInRange t days) (limitedShortfall u t days) (pos 0)
+      go true q =
+          let small : YearRange t days = ranges u t days q .1 in
+          let same : v ≡ t = omega arith in
+          rw same
+      go false q = rw (capped-range, q)
+
+  pub shortfall-splits : natAbs (shortfallAnswer u v days) * t < 2 ^ 63
+  unfolding shortfallAnswer
+  shortfall-splits = rw capped-shortfall (go (unitInRange u && yearInRange t days) refl)
+    where
+      go : (b : Bool) → (unitInRange u && yearInRange t days) ≡ b → natAbs (cond b (limitedShortfall u t days) (pos 0)) * t < 2 ^ 63
+      go true q = omega (arith, split-bound u t days (both-true q .0) (ranges u t days q .1 .v-to))
+      go false q = omega (arith, zero-mul t)
