@@ -14,7 +14,7 @@ use Rattle.settlement.specs.declared.capacity.UnitFacts.{UnitFacts}
 use Rattle.settlement.specs.Signed.{above, below}
 use Rattle.settlement.specs.Capacity.{committed, unforced, peakRated, available, quarters, limit, limited}
 use Rattle.settlement.specs.Capacity.{unitShortfall, unitLimit, limitedShortfall, ratesInRange, hoursInRange, unitInRange, yearInRange}
-use Rattle.settlement.specs.Money.{areaInRange}
+use Rattle.settlement.specs.Money.{wattsInRange, areaInRange}
 use Rattle.settlement.proofs.Sizes.{difference-size}
 
 pub committed-at-most : (i e v days : ℕ) → committed i e v days ≤ i
@@ -154,12 +154,12 @@ pub record AreaRange (N : ℕ → ℤ) (price days : ℕ) (o : ℕ → ℕ) : Ty
   pub obligations-to : sumBelow 16 o ≤ 1600000000
 
 pub area-range : (N : ℕ → ℤ) (price days : ℕ) (o : ℕ → ℕ) → areaInRange N price days o ≡ true → AreaRange N price days o
-unfolding areaInRange
+unfolding areaInRange wattsInRange
 area-range N price days o q =
-    let (s, q₁) = and-eq-true-iff _ _ .0 q in
-    let (x, q₂) = and-eq-true-iff _ _ .0 q₁ in
-    let (p, q₃) = and-eq-true-iff _ _ .0 q₂ in
-    let (d, w) = and-eq-true-iff _ _ .0 q₃ in
+    let (p, q₁) = both-true q in
+    let (d, q₂) = both-true q₁ in
+    let (w, q₃) = both-true q₂ in
+    let (s, x) = both-true q₃ in
     record {
       shortfalls-to = leb-true _ _ s;
       excesses-to = leb-true _ _ x;

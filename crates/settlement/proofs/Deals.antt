@@ -5,14 +5,15 @@ use mathlib.Core.List.{List}
 use Prim.Native.Nat.{ℕ, zero, suc, _+_, _-_, _*_, _/_, _^_, _≤_, _<_, min}
 use native.Mathlib.Nat.{le-trans, mul-comm, mul-zero, zero-mul, mul-le-mul-left, le-mul-of-pos-right, zero-div, div-zero, div-mul-le-self, le-div-iff-mul-le, div-lt-iff-lt-mul}
 use native.Mathlib.Omega.{arith}
-use lib.Dec.{ltb, leb}
+use lib.Dec.{eqb, ltb, leb}
 use lib.ListN.{length, List·getD-eq-default}
-use borrow.Author.Tests.{ltb-true, ltb-false, lt-ltb, le-leb, lt-leb}
+use borrow.Author.Tests.{ltb-true, ltb-false, lt-ltb, le-leb, lt-leb, leb-true, leb-false, eqb-true, eqb-false, eq-eqb, ne-eqb}
 use Rattle.calendar.specs.Sum.{sumBelow}
 use Rattle.calendar.proofs.Sums.{sum-one-more, sum-grows}
 use Rattle.settlement.specs.Lists.{listBelow, element}
 use Rattle.settlement.specs.Split.{firstShares, split, splitAnswer}
-use Rattle.settlement.proofs.Lists.{element-below, list-same}
+use Rattle.settlement.proofs.Lists.{length-below, element-below, list-same}
+use Rattle.settlement.proofs.Sums.{sum-same}
 use Rattle.settlement.proofs.Splits.{floor-grows, share-at-most, no-amount, no-weights}
 
 -- the sum of a list's elements
@@ -108,17 +109,39 @@ answer-none a ws n {z} isz e = go (ltb (a * total ws) (2 ^ 63)) refl
 pub capped-sixteen : (ws : List ℕ) (m : ℕ) {v : ℕ} → length ws ≡ 16 → v ≡ min (total ws) m → v ≡ min (sumBelow 16 (element ws)) m
 capped-sixteen ws m sixteen e = e ∙ rw sixteen
 
--- the shares of sixteen parties, as `split_by_party` answers them
-module _ (a : ℕ) (ws : List ℕ) (sixteen : length ws ≡ 16) (fits : a * sumBelow 16 (element ws) < 2 ^ 63) where
-  pub party-shares : splitAnswer a ws 16 ≡ listBelow 16 (split a 16 (element ws))
+-- a list that was filled, by what filled it
+pub capped-below : (f : ℕ → ℕ) (m : ℕ) {l : List ℕ} {v : ℕ} → l ≡ listBelow 16 f → v ≡ min (total l) m → v ≡ min (sumBelow 16 f) m
+capped-below f m {l} filled e =
+    capped-sixteen l m (ap length filled ∙ length-below 16 f) e
+    ∙ ap (λ (n : ℕ). min n m) (rw filled (sum-same 16 (element (listBelow 16 f)) f (λ k h. element-below 16 f k 0 h)))
+
+pub capped-test : (t limit : ℕ) {v : ℕ} → limit < 2 ^ 64 - 1 → v ≡ min t (2 ^ 64 - 1) → leb t limit ≡ leb v limit
+capped-test t limit {v} h e = go (leb v limit) refl
+  where
+    go : (b : Bool) → leb v limit ≡ b → leb t limit ≡ b
+    go true q = le-leb t limit (omega (arith, leb-true v limit q))
+    go false q = lt-leb t limit (omega (arith, leb-false v limit q))
+
+pub capped-zero : (t m : ℕ) {v : ℕ} → v ≡ min t (m + 1) → eqb v 0 ≡ eqb t 0
+capped-zero t m {v} e = go (eqb t 0) refl
+  where
+    go : (b : Bool) → eqb t 0 ≡ b → eqb v 0 ≡ b
+    go true q = eq-eqb v 0 (omega (arith, eqb-true t 0 q))
+    go false q = let some : (t ≡ 0 → ⊥) = eqb-false t 0 q in ne-eqb v 0 (λ z. some (omega arith))
+
+-- what `split_by_party` answers for party k, where the product fits
+pub record PartyShare (a : ℕ) (ws r : List ℕ) (k : ℕ) : Type 0 where
+  pub is : element r k ≡ split a 16 (element ws) k
+  pub fits : element r k < 2 ^ 63
+
+module _ {a n : ℕ} (ws : List ℕ) {r : List ℕ} (amount : n ≡ a) (sixteen : length ws ≡ 16) (fits : a * sumBelow 16 (element ws) < 2 ^ 63)
+    (e : r ≡ splitAnswer n ws 16) (k : ℕ) (h : k < 16) where
+  party-shares : r ≡ listBelow 16 (split a 16 (element ws))
   party-shares =
-      answer-shares a ws 16 (rw sixteen fits) ∙ ap (λ (n : ℕ). listBelow 16 (split a n (element ws))) sixteen
+      e ∙ rw amount (answer-shares a ws 16 (rw sixteen fits)) ∙ ap (λ (m : ℕ). listBelow 16 (split a m (element ws))) sixteen
 
-  pub party-share : {r : List ℕ} → r ≡ splitAnswer a ws 16 → (k : ℕ) → k < 16 → element r k ≡ split a 16 (element ws) k
-  party-share e k h = ap (λ (l : List ℕ). element l k) (e ∙ party-shares) ∙ element-below 16 (split a 16 (element ws)) k 0 h
-
-  pub party-share-fits : {r : List ℕ} → r ≡ splitAnswer a ws 16 → (k : ℕ) → k < 16 → element r k < 2 ^ 63
-  party-share-fits e k h = rw (party-share e k h) (go (ltb 0 (sumBelow 16 (element ws))) refl)
+  share-fits : split a 16 (element ws) k < 2 ^ 63
+  share-fits = go (ltb 0 (sumBelow 16 (element ws))) refl
     where
       go : (t : Bool) → ltb 0 (sumBelow 16 (element ws)) ≡ t → split a 16 (element ws) k < 2 ^ 63
       go true q =
@@ -127,3 +150,9 @@ module _ (a : ℕ) (ws : List ℕ) (sixteen : length ws ≡ 16) (fits : a * sumB
       go false q =
           let none : sumBelow 16 (element ws) ≡ 0 = omega (arith, ltb-false 0 (sumBelow 16 (element ws)) q) in
           omega (arith, no-weights a 16 (element ws) k none)
+
+  pub party-share : PartyShare a ws r k
+  party-share =
+      let is : element r k ≡ split a 16 (element ws) k =
+            ap (λ (l : List ℕ). element l k) party-shares ∙ element-below 16 (split a 16 (element ws)) k 0 h in
+      record { is = is; fits = rw is share-fits }

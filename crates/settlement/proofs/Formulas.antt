@@ -1,6 +1,6 @@
 -- The formulas' values in range fit 64 bits, and each is what its definition says.
 use mathlib.Core.Path.{_≡_, refl, sym, _∙_}
-use mathlib.Core.Bool.{Bool, true, false, _&&_}
+use mathlib.Core.Bool.{Bool, true, false, cond, _&&_}
 use Prim.Native.Nat.{ℕ, _+_, _-_, _*_, _/_, _≤_, _<_}
 use native.Mathlib.Nat.{le-trans, not-suc-le-zero, mul-pos, mul-le-mul, div-le-self}
 use native.Mathlib.Omega.{arith}
@@ -10,6 +10,7 @@ use Rattle.settlement.specs.declared.capacity.UnitFacts.{UnitFacts}
 use Rattle.settlement.specs.Signed.{above}
 use Rattle.settlement.specs.Capacity.{limited, unitInRange}
 use Rattle.settlement.proofs.Capacities.{UnitRange, unit-range}
+use Rattle.settlement.proofs.Bounds.{priced-bound}
 
 pub watt-days-fit : {watts last : ℕ} (first : ℕ) → watts ≤ 5000000 → last ≤ 365 → watts * (last - first + 1) ≤ 1830000000
 watt-days-fit first h k = mul-le-mul {n₂ = 5000000} {m₂ = 366} h (omega arith)
@@ -80,3 +81,17 @@ passed e = rw e
 
 pub failed : {t : Bool} (u : Bool) → t ≡ false → false ≡ (t && u)
 failed u e = rw e
+
+pub record PricedFits (watts price days : ℕ) : Type 0 where
+  pub once : watts * price ≤ 8000000000000
+  pub whole : watts * price * days ≤ 2928000000000000
+
+pub priced-fits : {watts price days : ℕ} → watts ≤ 160000000 → price ≤ 50000 → days ≤ 366 → PricedFits watts price days
+priced-fits w p d = record { once = mul-le-mul {n₂ = 160000000} {m₂ = 50000} w p; whole = priced-bound _ _ _ w p d }
+
+-- a choice by a test that passed, and by one that failed
+pub chosen : {A : Type 0} {t : Bool} {a : A} (b : A) → t ≡ true → a ≡ cond t a b
+chosen b e = rw e
+
+pub refused : {A : Type 0} {t : Bool} (a : A) {b : A} → t ≡ false → b ≡ cond t a b
+refused a e = rw e

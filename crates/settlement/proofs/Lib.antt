@@ -10,3 +10,4 @@ pub mod Monies
 pub mod Bounds
 pub mod Formulas
 pub mod Nets
+pub mod Dues

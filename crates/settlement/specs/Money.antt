@@ -5,8 +5,10 @@ use mathlib.Core.List.{List}
 use Prim.Native.Nat.{ℕ, _+_, _-_, _*_, _/_}
 use lib.IntN.{ℤ, pos, subℕ}
 use lib.Dec.{eqb, ltb, leb}
+use lib.ListN.{getD}
 use Rattle.calendar.specs.Sum.{sumBelow}
 use Rattle.settlement.specs.declared.UnforcedWatts.{UnforcedWatts}
+use Rattle.settlement.specs.declared.Cents.{Cents}
 use Rattle.settlement.specs.declared.money.AreaMoney.{AreaMoney}
 use Rattle.settlement.specs.Lists.{listBelow, element}
 use Rattle.settlement.specs.Signed.{above, below}
@@ -17,6 +19,10 @@ use Rattle.settlement.specs.Shares.{wattsOf}
 -- N × price × days / 1,000,000: cents for so many watts at a price in cents per MW-day
 unfoldable pub priced : ℕ → ℕ → ℕ → ℕ
 priced watts price days = watts * price * days / 1000000
+
+-- the shortfalls of all parties are at most 160,000,000 W, and so are the excesses
+unfoldable pub wattsInRange : (ℕ → ℤ) → Bool
+wattsInRange N = leb (sumBelow 16 (λ p. above (N p))) 160000000 && leb (sumBelow 16 (λ p. below (N p))) 160000000
 
 module _ (N : ℕ → ℤ) (price days : ℕ) where
   -- C: the charge where N > 0
@@ -59,16 +65,19 @@ module _ (N : ℕ → ℤ) (price days : ℕ) where
     -- The ranges of 01, Records, and what follows from them: 32 units of 5,000,000 W in an area, and 16 obligations of
     -- 100,000,000 W.
     unfoldable pub areaInRange : Bool
-    areaInRange =
-        leb (sumBelow 16 (λ p. above (N p))) 160000000 && (leb (sumBelow 16 (λ p. below (N p))) 160000000
-        && (leb price 50000 && (leb days 366 && leb (sumBelow 16 obligation) 1600000000)))
+    areaInRange = leb price 50000 && (leb days 366 && (leb (sumBelow 16 obligation) 1600000000 && wattsInRange N))
 
--- What the public function answers: whether refusal 11 fits, and the sixteen dues. Out of these ranges it does not fit
--- and the dues are 0.
+    -- whether refusal 11 fits, and the sixteen dues
+    unfoldable pub settled : AreaMoney
+    settled = record { unplaced = isUnplaced; dues = listBelow 16 (λ p. cents (due p)) }
+
+-- party p's cents of an array
+abbrev pub centsOf : List Cents → ℕ → ℤ
+centsOf l p = getD l p (cents (pos 0)) .0
+
+-- What the public function answers. Out of these ranges refusal 11 does not fit and the dues are 0.
 unfoldable pub moneyAnswer : List UnforcedWatts → ℕ → ℕ → List ℕ → AreaMoney
 moneyAnswer nets price days obligations =
     cond (areaInRange (wattsOf nets) price days (element obligations))
-    (record {
-      unplaced = isUnplaced (wattsOf nets) price days (element obligations);
-      dues = listBelow 16 (λ p. cents (due (wattsOf nets) price days (element obligations) p)) })
+    (settled (wattsOf nets) price days (element obligations))
     (record { unplaced = false; dues = listBelow 16 (λ p. cents (pos 0)) })

@@ -7,8 +7,7 @@ use native.Mathlib.Omega.{arith}
 use mathlib.Core.Path.{_≡_, refl, ap, _∙_}
 use Prim.Native.Nat.{ℕ, _-_, _^_, _<_}
 use lib.IntN.{natAbs}
-use lib.ListN.{length}
-use Rattle.settlement.proofs.Deals.{party-share, party-share-fits}
+use Rattle.settlement.proofs.Deals.{PartyShare, party-share}
 use Rattle.settlement.proofs.shares.signed_split.Statement.{statement}
 use Rattle.settlement.proofs.shares.signed_split.Tie as tie
 use Rattle.settlement.proofs.shares.signed_split.Reads as reads
@@ -23,19 +22,11 @@ Inv-loop s sizes shares₀ p₀ shares p = Filled 16 (λ k. unforcedWatts (withS
 abbrev μ-loop : tie.MeasureT-loop
 μ-loop s sizes shares₀ p₀ shares p = 16 - p
 
--- what the parties' sizes are, and that each fits
-abbrev Sizes : tie.After-split-by-party Inv-loop μ-loop → ℕ → Type 0
-Sizes c k =
-    let sizes = c .split-by-party .result in
-    let start = c .before .before in
-    (element sizes k ≡ split (natAbs (start .args .s .0)) 16 (element (start .args .weights)) k) × (element sizes k < 2 ^ 63)
+abbrev Size : tie.After-split-by-party Inv-loop μ-loop → ℕ → Type 0
+Size c k = let start = c .before .before in PartyShare (natAbs (start .args .s .0)) (start .args .weights) (c .split-by-party .result) k
 
-sizes : (c : tie.After-split-by-party Inv-loop μ-loop) (k : ℕ) → k < 16 → Sizes c k
-sizes c k h =
-    let start = c .before .before in
-    let sixteen : length (start .args .weights) ≡ 16 = search needs in
-    let e = rw (c .before .size-of .ensures .0) at (c .split-by-party .ensures) in
-    (party-share _ _ sixteen (start .pre) e k h, party-share-fits _ _ sixteen (start .pre) e k h)
+size : (c : tie.After-split-by-party Inv-loop μ-loop) (k : ℕ) → k < 16 → Size c k
+size c k h = party-share _ (c .before .size-of .ensures .0) (search needs) (c .before .before .pre) (c .split-by-party .ensures) k h
 
 -- src/shares.rt:43:32
 size-of-requires : tie.Need-size-of-requires Inv-loop μ-loop
@@ -59,7 +50,7 @@ array-read-with-sign c = omega arith
 
 -- src/shares.rt:47:21
 with-sign-requires : tie.Need-with-sign-requires Inv-loop μ-loop
-with-sign-requires c κs = sizes (c .before .before) (c .before .loop .p) (omega arith) .1
+with-sign-requires c κs = size (c .before .before) (c .before .loop .p) (omega arith) .fits
 
 -- src/shares.rt:47:9
 mul-shares : tie.Need-mul-shares Inv-loop μ-loop
@@ -84,7 +75,7 @@ loop-again c = filled-more (c .before .before .loop .inv) (omega arith) (c .with
 -- src/shares.rt:39:1
 returns : tie.Need-returns Inv-loop μ-loop
 unfolding splitSigned
-returns c = filled-all (c .before .loop .inv) (omega arith) ∙ list-same 16 _ _ (λ k h. ap (λ (n : ℕ). unforcedWatts (withSign (c .before .before .before .before .args .s .0) n)) (sizes (c .before .before) k h .0))
+returns c = filled-all (c .before .loop .inv) (omega arith) ∙ list-same 16 _ _ (λ k h. ap (λ (n : ℕ). unforcedWatts (withSign (c .before .before .before .before .args .s .0) n)) (size (c .before .before) k h .is))
 
 pub signed-split-spec : {M : Type 1} → statement M
 signed-split-spec =
