@@ -93,6 +93,7 @@ answer-none a ws n {z} isz e = go (ltb (a * total ws) (2 ^ 63)) refl
   where
     shares : ℕ → ℕ
     shares = split a (length ws) (element ws)
+
     nothing : (t u : Bool) → ltb 0 a ≡ t → ltb 0 z ≡ u → a * total ws < 2 ^ 63 → (k : ℕ) → 0 ≡ shares k
     nothing false u p q h k = let none : a ≡ 0 = omega (arith, ltb-false 0 a p) in rw none (sym (no-amount (length ws) (element ws) k))
     nothing true false p q h k = sym (no-weights a (length ws) (element ws) k (omega (arith, ltb-false 0 z q)))
@@ -102,6 +103,7 @@ answer-none a ws n {z} isz e = go (ltb (a * total ws) (2 ^ 63)) refl
         let never : true ≡ false = sym found ∙ e in
         let clash : _≡_ {A = ℕ} 0 1 = cc in
         absurd (omega arith)
+
     go : (t : Bool) → ltb (a * total ws) (2 ^ 63) ≡ t → listBelow n (λ k. 0) ≡ cond t (listBelow n shares) (listBelow n (λ k. 0))
     go false q = refl
     go true q = list-same n (λ k. 0) shares (λ k b. nothing (ltb 0 a) (ltb 0 z) refl refl (ltb-true (a * total ws) (2 ^ 63) q) k)
@@ -154,5 +156,5 @@ module _ {a n : ℕ} (ws : List ℕ) {r : List ℕ} (amount : n ≡ a) (sixteen 
   pub party-share : PartyShare a ws r k
   party-share =
       let is : element r k ≡ split a 16 (element ws) k =
-            ap (λ (l : List ℕ). element l k) party-shares ∙ element-below 16 (split a 16 (element ws)) k 0 h in
+      ap (λ (l : List ℕ). element l k) party-shares ∙ element-below 16 (split a 16 (element ws)) k 0 h in
       record { is = is; fits = rw is share-fits }

@@ -11,3 +11,4 @@ pub mod Bounds
 pub mod Formulas
 pub mod Nets
 pub mod Dues
+pub mod Figures

@@ -29,6 +29,7 @@ pub struct UnitFacts {
 }
 
 const COMMITMENT_MOST: u64 = 5_000_000;
+
 const LAST_DAY: u64 = 365;
 
 // A commitment's watt-days; 0 where it is out of range.

@@ -1,22 +1,46 @@
 // Settlement: from a set to its shortfall, the split, and area money.
-//
-// The quantities have a type each. Their fields are private to this crate: other crates hold and pass them, and cannot take
-// one apart or make one of another.
+ghost use mathlib.Core.Path.{_≡_};
+ghost use Rattle.settlement.specs.Quantities.{installedWatts};
+
+// The quantities have a type each. Their fields are private to this crate, so that no other can make one of another.
 
 // Installed capacity (ICAP): I and T.
 pub struct InstalledWatts(u64);
 
-// Unforced capacity (UCAP): U, X, G, P and the limit; signed for a shortfall, which below zero is an excess, and for what is
-// made of it, shares and nets.
+// Unforced capacity (UCAP): U, X, G, P and the limit; a shortfall, which below zero is an excess; shares and nets of it.
 pub struct UnforcedWatts(i64);
 
-// Money; signed, below zero a party pays.
+// Money. Below zero a party pays.
 pub struct Cents(i64);
 
-mod signed;
+impl InstalledWatts {
+    pub fn new(watts: u64) -> Self
+        ensures { λ r. ⌜ r ≡ installedWatts watts ⌝ }
+    {
+        Self(watts)
+    }
+}
+
+impl UnforcedWatts {
+    pub fn watts(self) -> i64
+        ensures { λ r. ⌜ r ≡ self .0 ⌝ }
+    {
+        self.0
+    }
+}
+
+impl Cents {
+    pub fn amount(self) -> i64
+        ensures { λ r. ⌜ r ≡ self .0 ⌝ }
+    {
+        self.0
+    }
+}
+
 mod amounts;
 pub mod capacity;
-pub mod split;
-pub mod shares;
-pub mod money;
 pub mod laws;
+pub mod money;
+pub mod shares;
+mod signed;
+pub mod split;

@@ -121,9 +121,7 @@ fn due(credit: Cents, load_share: Cents, charge: Cents) -> Cents
 
 fn dues(credits: [Cents; 16], load_shares: [Cents; 16], charges: [Cents; 16]) -> [Cents; 16]
     requires { ⌜ sumBelow 16 (λ p. above (centsOf credits p)) + sumBelow 16 (λ p. above (centsOf «load_shares» p)) < 2 ^ 63 ⌝ }
-    ensures {
-        λ r. ⌜ r ≡ listBelow 16 (λ p. cents (subℕ (above (centsOf credits p) + above (centsOf «load_shares» p)) (above (centsOf charges p)))) ⌝
-    }
+    ensures { λ r. ⌜ r ≡ listBelow 16 (λ p. cents (subℕ (above (centsOf credits p) + above (centsOf «load_shares» p)) (above (centsOf charges p)))) ⌝ }
 {
     let mut dues = [Cents(0); 16];
     let mut p = 0;
@@ -138,12 +136,15 @@ fn dues(credits: [Cents; 16], load_shares: [Cents; 16], charges: [Cents; 16]) ->
 }
 
 // Each party's credit, from R and the sum of M: R split by M where it is below that sum, else M.
-fn credits(charged: Cents, ceiling: Cents, ceilings: [Cents; 16], by_ceiling: [u64; 16]) -> [Cents; 16]
+fn credits(
+    charged: Cents,
+    ceiling: Cents,
+    ceilings: [Cents; 16],
+    by_ceiling: [u64; 16],
+) -> [Cents; 16]
     requires { ⌜ above (charged .0) * sumBelow 16 (element «by_ceiling») < 2 ^ 63 ⌝ }
-    ensures {
-        λ r. ⌜ r ≡ cond (ltb (above (charged .0)) (above (ceiling .0)))
-            (listBelow 16 (λ p. cents (pos (split (above (charged .0)) 16 (element «by_ceiling») p)))) ceilings ⌝
-    }
+    ensures { λ r. ⌜ r ≡ cond (ltb (above (charged .0)) (above (ceiling .0)))
+        (listBelow 16 (λ p. cents (pos (split (above (charged .0)) 16 (element «by_ceiling») p)))) ceilings ⌝ }
 {
     if amount_of(charged) < amount_of(ceiling) {
         return split_cents(charged, by_ceiling);
@@ -197,7 +198,12 @@ fn area_in_range(nets: [UnforcedWatts; 16], price: u64, days: u64, obligations: 
 }
 
 // The money of an area whose nets, price, days and obligations are in range.
-fn money_in_range(nets: [UnforcedWatts; 16], price: u64, days: u64, obligations: [u64; 16]) -> AreaMoney
+fn money_in_range(
+    nets: [UnforcedWatts; 16],
+    price: u64,
+    days: u64,
+    obligations: [u64; 16],
+) -> AreaMoney
     requires { ⌜ areaInRange (wattsOf nets) price days (element obligations) ≡ true ⌝ }
     ensures { λ r. ⌜ r ≡ settled (wattsOf nets) price days (element obligations) ⌝ }
 {
@@ -216,7 +222,12 @@ fn money_in_range(nets: [UnforcedWatts; 16], price: u64, days: u64, obligations:
 }
 
 // What an area comes to; out of range, nothing is left over and every due is 0.
-pub fn area_money(nets: [UnforcedWatts; 16], price: u64, days: u64, obligations: [u64; 16]) -> AreaMoney
+pub fn area_money(
+    nets: [UnforcedWatts; 16],
+    price: u64,
+    days: u64,
+    obligations: [u64; 16],
+) -> AreaMoney
     ensures { λ r. ⌜ r ≡ moneyAnswer nets price days obligations ⌝ }
 {
     if area_in_range(nets, price, days, obligations) {

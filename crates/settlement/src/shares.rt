@@ -58,6 +58,13 @@ pub fn unit_shares(u: UnitFacts, parts: [u64; 16], days: u64) -> [UnforcedWatts;
     signed_split(limited_shortfall(u, v, days), parts)
 }
 
+// The nets of an area without units.
+pub fn no_nets() -> [UnforcedWatts; 16]
+    ensures { λ r. ⌜ r ≡ listBelow 16 (λ p. unforcedWatts (pos 0)) ⌝ }
+{
+    [UnforcedWatts(0); 16]
+}
+
 const NET_MOST: u64 = 160_000_000;
 
 fn net_with(net: UnforcedWatts, share: UnforcedWatts) -> UnforcedWatts

@@ -20,5 +20,9 @@ pub fn difference(a: u64, b: u64) -> i64
     requires { ⌜ (a < 2 ^ 63) × (b < 2 ^ 63) ⌝ }
     ensures { λ r. ⌜ r ≡ subℕ a b ⌝ }
 {
-    if a < b { -((b - a) as i64) } else { (a - b) as i64 }
+    if a < b {
+        -((b - a) as i64)
+    } else {
+        (a - b) as i64
+    }
 }

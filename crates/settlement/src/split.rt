@@ -57,9 +57,7 @@ fn weight(weights: &[u64], k: usize) -> u64
 // Every place gets its share of an amount over weights of sum z.
 fn deal(amount: u64, weights: &[u64], z: u64, shares: &mut [u64])
     requires { ⌜ (z ≡ sumBelow (length (now weights)) (element (now weights))) × (0 < z) × (amount * z < 2 ^ 63) ⌝ }
-    ensures {
-        λ _. ⌜ now (shares .exit) ≡ listBelow (length (now (shares .entry))) (split amount (length (now (weights .entry))) (element (now (weights .entry)))) ⌝
-    }
+    ensures { λ _. ⌜ now (shares .exit) ≡ listBelow (length (now (shares .entry))) (split amount (length (now (weights .entry))) (element (now (weights .entry)))) ⌝ }
 {
     let mut sum: u64 = 0;
     let mut given: u64 = 0;

@@ -34,7 +34,7 @@ capped-sum-requires c κs = search needs
 -- src/money.rt:194:9
 returns-3 : tie.Need-returns-3
 unfolding areaInRange
-returns-3 c = 
+returns-3 c =
     failed _ (capped-test _ 1600000000 (omega arith) (capped-sixteen (c .before .before .before .before .before .args .t4) (2 ^ 64 - 1) (search needs) (c .before .capped-sum .ensures)) ∙ lt-leb _ _ (c .if3 .taken))
     ∙ passed (le-leb _ _ (c .before .before .before .if2 .left)) ∙ passed (le-leb _ _ (c .before .before .before .before .if1 .left))
 
@@ -45,7 +45,7 @@ watts-in-range-requires c κs = search needs
 -- src/money.rt:184:1
 returns-4 : tie.Need-returns-4
 unfolding areaInRange
-returns-4 c = 
+returns-4 c =
     c .watts-in-range .ensures
     ∙ passed (capped-test _ 1600000000 (omega arith) (capped-sixteen (c .before .before .before .before .before .before .args .t4) (2 ^ 64 - 1) (search needs) (c .before .before .capped-sum .ensures)) ∙ le-leb _ _ (c .before .if3 .left))
     ∙ passed (le-leb _ _ (c .before .before .before .before .if2 .left)) ∙ passed (le-leb _ _ (c .before .before .before .before .before .if1 .left))

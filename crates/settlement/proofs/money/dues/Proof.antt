@@ -50,7 +50,7 @@ array-copy-out-charge c = search needs
 
 -- src/money.rt:134:19
 due-requires : tie.Need-due-requires Inv-loop μ-loop
-due-requires c κs = 
+due-requires c κs =
     let p = c .before .before .before .before .loop .p in
     let start = c .before .before .before .before .before in
     let one = sum-term p 16 (λ k. above (centsOf (start .args .t1) k)) (omega arith) in

@@ -31,7 +31,7 @@ capped-sum-requires c κs = search needs
 
 -- src/money.rt:164:1
 returns-2 : tie.Need-returns-2
-returns-2 c = 
+returns-2 c =
     capped-zero _ (2 ^ 64 - 2) (capped-sixteen (c .before .before .before .before .args .t2) (2 ^ 64 - 1) (search needs) (c .capped-sum .ensures))
     ∙ passed (lt-ltb 0 (above (c .before .before .before .before .args .left .0)) (omega arith))
 

@@ -57,7 +57,7 @@ unfolding ceilings
 ceiling-is c = total-filled _ (by-ceiling-is (c .before .before .before)) (c .total2 .ensures)
 
 credits-are : (c : tie.After-credits) → Of (c .before .before .before .before .before .before .before .before .before) (λ N price days o. c .credits .result ≡ money (credit N price days))
-credits-are c = 
+credits-are c =
     credits-filled _ _ _ (charged-is (c .before .before)) (ceiling-is (c .before)) (ceilings-are (c .before .before .before .before .before)) (by-ceiling-is (c .before .before .before .before)) (c .credits .ensures)
 
 left-is : (c : tie.After-left-over) → Of (c .before .before .before .before .before .before .before .before .before .before) (λ N price days o. c .left-over .result ≡ cents (pos (left N price days)))
@@ -125,7 +125,7 @@ dues-requires c κs = paid-fits _ _ _ _ (c .before .before .before .before .befo
 -- src/money.rt:200:1
 returns : tie.Need-returns
 unfolding settled
-returns c = 
+returns c =
     money-same
     (unplaced-is _ _ _ _ (left-is (c .before .before .before)) (c .before .is-unplaced .ensures))
     (dues-filled _ _ _ _ (credits-are (c .before .before .before .before)) (load-shares-are (c .before .before)) (charges-are (c .before .before .before .before .before .before .before .before .before .before .before)) (c .dues .ensures))

@@ -55,7 +55,7 @@ capped-sum-requires-2 c κs = search needs
 -- src/money.rt:173:1
 returns-2 : tie.Need-returns-2
 unfolding wattsInRange
-returns-2 c = 
+returns-2 c =
     sym (capped-test _ 160000000 (omega arith) (capped-below _ _ (c .before .before .excesses .ensures) (c .capped-sum2 .ensures)))
     ∙ passed (short (c .before .before .before .before) ∙ le-leb _ _ (c .before .before .before .if1 .left))
 

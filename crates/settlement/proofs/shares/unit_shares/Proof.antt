@@ -44,7 +44,7 @@ signed-split-requires c κs = rw (c .limited-shortfall .ensures) (shortfall-spli
 -- src/shares.rt:54:1
 returns : tie.Need-returns
 unfolding sharesAnswer wattDaysOf
-returns c = 
+returns c =
     let parts = c .before .before .before .before .args .t2 in
     c .signed-split .ensures
     ∙ ap (λ (w : UnforcedWatts). listBelow 16 (λ p. unforcedWatts (splitSigned (w .0) 16 (element parts) p))) (c .before .limited-shortfall .ensures)
