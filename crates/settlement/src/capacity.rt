@@ -7,12 +7,12 @@ use crate::amounts::unforced_watts;
 use calendar::range::within;
 ghost use mathlib.Core.Path.{_≡_};
 ghost use mathlib.Core.Bool.{true, _&&_};
-ghost use Prim.Native.Nat.{_+_, _≤_, _<_, max};
+ghost use Prim.Native.Nat.{_+_, _*_, _/_, _^_, _≤_, _<_, max};
 ghost use lib.IntN.{pos};
 ghost use Rattle.settlement.specs.Signed.{above};
 ghost use Rattle.settlement.specs.Quantities.{installedWatts, unforcedWatts};
-ghost use Rattle.settlement.specs.Capacity.{wattDaysAnswer, committed, unforced, peakRated, available, shortfall, quarters, limit, limited};
-ghost use Rattle.settlement.specs.Capacity.{unitShortfall, unitLimit, limitedShortfall, ratesInRange, hoursInRange, unitInRange, yearInRange, shortfallAnswer};
+ghost use Rattle.settlement.specs.Capacity.{wattDaysAnswer, committed, unforced, peakRated, available, shortfall, unforcedCapacity, quarters, limit, limited};
+ghost use Rattle.settlement.specs.Capacity.{unitShortfall, limitedShortfall, ratesInRange, hoursInRange, unitInRange, yearInRange, shortfallAnswer};
 
 // What a unit's shortfall is worked out from, beside its commitments.
 pub struct UnitFacts {
@@ -71,13 +71,23 @@ fn unforced(w: InstalledWatts, rate: u64) -> UnforcedWatts
     unforced_watts(w.0 * (WHOLE - rate) / WHOLE)
 }
 
+// whole × part / sum
+fn share_of(whole: u64, part: u64, sum: u64) -> u64
+    requires { ⌜ (whole * part < 2 ^ 64) × (0 < sum) ⌝ }
+    ensures { λ r. ⌜ r ≡ whole * part / sum ⌝ }
+{
+    whole * part / sum
+}
+
 // P before rule (f) of section 10, by one floor.
 fn peak_rated(t: InstalledWatts, u: UnitFacts) -> UnforcedWatts
     requires { ⌜ (t .0 ≤ 5000000) × (unitInRange u ≡ true) × (0 < u .sh + u .foh) ⌝ }
     ensures { λ r. ⌜ r ≡ unforcedWatts (pos (peakRated (t .0) (u .installed .0) (u .sh) (u .foh) (u .d))) ⌝ }
 {
     let i = u.installed;
-    unforced_watts(t.0 * (u.sh * i.0 - u.d) / (i.0 * (u.sh + u.foh)))
+    let served = u.sh * i.0 - u.d;
+    let hours = i.0 * (u.sh + u.foh);
+    unforced_watts(share_of(t.0, served, hours))
 }
 
 // The higher of two that are not below zero.
@@ -154,11 +164,11 @@ fn unit_shortfall(t: InstalledWatts, u: UnitFacts) -> UnforcedWatts
     shortfall(unforced(t, u.f), available(t, u))
 }
 
-fn unit_limit(u: UnitFacts) -> UnforcedWatts
-    requires { ⌜ unitInRange u ≡ true ⌝ }
-    ensures { λ r. ⌜ r ≡ unforcedWatts (pos (unitLimit u)) ⌝ }
+// L, from I.
+fn unit_limit(i: InstalledWatts, u: UnitFacts) -> UnforcedWatts
+    requires { ⌜ (i .0 ≤ 5000000) × (unitInRange u ≡ true) ⌝ }
+    ensures { λ r. ⌜ r ≡ unforcedWatts (pos (limit (unforcedCapacity (i .0) (u .e)) (u .class))) ⌝ }
 {
-    let i = u.installed;
     limit(unforced(i, u.e), u.class)
 }
 
@@ -229,7 +239,7 @@ fn limited_in_range(u: UnitFacts, v: u64, days: u64) -> UnforcedWatts
 {
     let i = u.installed;
     let t = committed(i, u.e, v, days);
-    limited(unit_shortfall(t, u), unit_limit(u))
+    limited(unit_shortfall(t, u), unit_limit(i, u))
 }
 
 // A unit's limited shortfall, from its facts, its V watt-days and the days of the delivery year; 0 where these are out of range.

@@ -4,6 +4,7 @@ use native.Mathlib.Nat.{le-trans}
 use Rattle.settlement.specs.Signed.{above}
 use Rattle.settlement.specs.Capacity.{limitedShortfall}
 use Rattle.settlement.proofs.Capacities.{committed-at-most, both-true, ranges}
+use Rattle.settlement.specs.Capacity.{unitLimit}
 use Rattle.settlement.proofs.capacity.limited_in_range.Statement.{statement}
 use Rattle.settlement.proofs.capacity.limited_in_range.Tie as tie
 use Rattle.settlement.proofs.capacity.limited_in_range.Reads as reads
@@ -23,7 +24,7 @@ unit-shortfall-requires c κs = (rw (c .committed .ensures) (le-trans (committed
 
 -- src/capacity.rt:231:35
 unit-limit-requires : tie.Need-unit-limit-requires
-unit-limit-requires c κs = both-true (c .before .before .before .pre) .0
+unit-limit-requires c κs = (ranges _ _ _ (c .before .before .before .pre) .0 .installed-to, both-true (c .before .before .before .pre) .0)
 
 -- src/capacity.rt:231:5
 limited-requires : tie.Need-limited-requires
@@ -31,7 +32,7 @@ limited-requires c κs = search needs
 
 -- src/capacity.rt:225:1
 returns : tie.Need-returns
-unfolding limitedShortfall above
+unfolding limitedShortfall unitLimit above
 returns c = c .limited .ensures ∙ simp (c .before .before .unit-shortfall .ensures, c .before .unit-limit .ensures, c .before .before .before .committed .ensures)
 
 pub limited-in-range-spec : {M : Type 1} → statement M

@@ -1,54 +1,54 @@
+use mathlib.Core.Path.{_∙_}
 use Rattle.settlement.specs.Capacity.{peakRated}
-use Rattle.settlement.proofs.Formulas.{rated-fits}
+use Rattle.settlement.proofs.Formulas.{RatedFits, rated-fits}
 use native.Mathlib.Omega.{arith}
 use Rattle.settlement.proofs.capacity.peak_rated.Statement.{statement}
 use Rattle.settlement.proofs.capacity.peak_rated.Tie as tie
 use Rattle.settlement.proofs.capacity.peak_rated.Reads as reads
 use Rattle.settlement.proofs.capacity.peak_rated.Lts as lts
 use Rattle.settlement.proofs.amounts.unforced_watts.Reads as unforced-watts-reads
+use Rattle.settlement.proofs.capacity.share_of.Reads as share-of-reads
 
--- src/capacity.rt:85:27
-mul-unforced-watts : tie.Need-mul-unforced-watts
-mul-unforced-watts c = omega (arith, rated-fits {u = c .before .before .before .args .u} (c .before .before .before .pre .0) (c .before .before .before .pre .1) (c .before .before .before .pre .2))
+fits : (c : tie.Start) → RatedFits (c .args .t .0) (c .args .u)
+fits c = rated-fits (c .pre .0) (c .pre .1) (c .pre .2)
 
--- src/capacity.rt:85:27
-sub-unforced-watts : tie.Need-sub-unforced-watts
-sub-unforced-watts c = rated-fits {u = c .before .before .before .before .args .u} (c .before .before .before .before .pre .0) (c .before .before .before .before .pre .1) (c .before .before .before .before .pre .2) .derated
+-- src/capacity.rt:88:18
+mul-served : tie.Need-mul-served
+mul-served c = omega (arith, fits (c .before .before .before))
 
--- src/capacity.rt:85:20
-mul-unforced-watts-2 : tie.Need-mul-unforced-watts-2
-mul-unforced-watts-2 c = omega (arith, rated-fits {u = c .before .before .before .before .before .args .u} (c .before .before .before .before .before .pre .0) (c .before .before .before .before .before .pre .1) (c .before .before .before .before .before .pre .2))
+-- src/capacity.rt:88:18
+sub-served : tie.Need-sub-served
+sub-served c = fits (c .before .before .before .before) .derated
 
--- src/capacity.rt:85:55
-add-unforced-watts : tie.Need-add-unforced-watts
-add-unforced-watts c = omega (arith, rated-fits {u = c .before .before .before .before .before .before .args .u} (c .before .before .before .before .before .before .pre .0) (c .before .before .before .before .before .before .pre .1) (c .before .before .before .before .before .before .pre .2))
+-- src/capacity.rt:89:24
+add-hours : tie.Need-add-hours
+add-hours c = omega (arith, fits (c .before .before .before .before .before))
 
--- src/capacity.rt:85:48
-mul-unforced-watts-3 : tie.Need-mul-unforced-watts-3
-mul-unforced-watts-3 c = omega (arith, rated-fits {u = c .before .before .before .before .before .before .before .args .u} (c .before .before .before .before .before .before .before .pre .0) (c .before .before .before .before .before .before .before .pre .1) (c .before .before .before .before .before .before .before .pre .2))
+-- src/capacity.rt:89:17
+mul-hours : tie.Need-mul-hours
+mul-hours c = omega (arith, fits (c .before .before .before .before .before .before))
 
--- src/capacity.rt:85:20
-div-unforced-watts : tie.Need-div-unforced-watts
-div-unforced-watts c = rated-fits {u = c .before .before .before .before .before .before .before .args .u} (c .before .before .before .before .before .before .before .pre .0) (c .before .before .before .before .before .before .before .pre .1) (c .before .before .before .before .before .before .before .pre .2) .some
+-- src/capacity.rt:90:20
+share-of-requires : tie.Need-share-of-requires
+share-of-requires c κs = (omega (arith, fits (c .before .before .before .before .before .before) .whole), fits (c .before .before .before .before .before .before) .some)
 
--- src/capacity.rt:85:5
+-- src/capacity.rt:90:5
 unforced-watts-requires : tie.Need-unforced-watts-requires
-unforced-watts-requires c κs = omega (arith, rated-fits {u = c .before .before .before .before .before .before .before .args .u} (c .before .before .before .before .before .before .before .pre .0) (c .before .before .before .before .before .before .before .pre .1) (c .before .before .before .before .before .before .before .pre .2) .floor)
+unforced-watts-requires c κs = rw (c .share-of .ensures) (omega (arith, fits (c .before .before .before .before .before .before .before) .floor))
 
--- src/capacity.rt:80:1
+-- src/capacity.rt:83:1
 returns : tie.Need-returns
 unfolding peakRated
-returns c = c .unforced-watts .ensures
+returns c = c .unforced-watts .ensures ∙ simp (c .before .share-of .ensures)
 
 pub peak-rated-spec : {M : Type 1} → statement M
 peak-rated-spec =
     tie.close
     (tie.spec
-    mul-unforced-watts
-    sub-unforced-watts
-    mul-unforced-watts-2
-    add-unforced-watts
-    mul-unforced-watts-3
-    div-unforced-watts
+    mul-served
+    sub-served
+    add-hours
+    mul-hours
+    share-of-requires
     unforced-watts-requires
     returns)
