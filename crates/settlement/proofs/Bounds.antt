@@ -17,8 +17,8 @@ use Rattle.settlement.proofs.Sums.{sum-at-most, sum-exchange, sum-bound
 use Rattle.settlement.proofs.SignedSums.{above-difference, below-difference}
 use Rattle.settlement.proofs.Sizes.{above-size, below-size, sum-size, share-size}
 use Rattle.settlement.proofs.Splits.{shares-at-most}
-use Rattle.settlement.proofs.Monies.{credits-add-up}
 use Rattle.settlement.proofs.Capacities.{committed-at-most, limited-shortfall-size, UnitRange, unit-range, AreaRange, area-range}
+use Rattle.settlement.proofs.Balance.{credits-add-up}
 
 pub watt-days-bound : (n : ℕ) (watts first last : ℕ → ℕ) → n ≤ 64 → ((k : ℕ) → (watts k ≤ 5000000) × (last k ≤ 365))
     → sumBelow n (λ k. wattDays (watts k) (first k) (last k)) ≤ 117120000000

@@ -1,6 +1,6 @@
 -- Laws of T, of unforced watts, P and S, of the limit, and what the tests of ranges say.
 use mathlib.Core.Path.{_≡_, refl}
-use mathlib.Core.Bool.{Bool, true, false, cond, _&&_, and-eq-true-iff}
+use mathlib.Core.Bool.{Bool, true, false, cond, _&&_}
 use Prim.Native.Nat.{ℕ, suc, _+_, _-_, _*_, _≤_, max}
 use native.Mathlib.Nat.{le-refl, le-trans, min-le-left, max-le, mul-le-mul-left, mul-comm, div-le-of-le-mul}
 use native.Mathlib.Omega.{arith}
@@ -12,9 +12,10 @@ use Rattle.calendar.specs.Sum.{sumBelow}
 use Rattle.calendar.proofs.Tests.{within-from, within-to}
 use Rattle.settlement.specs.declared.capacity.UnitFacts.{UnitFacts}
 use Rattle.settlement.specs.Signed.{above, below}
-use Rattle.settlement.specs.Capacity.{committed, unforced, peakRated, available, quarters, limit, limited}
-use Rattle.settlement.specs.Capacity.{unitShortfall, unitLimit, limitedShortfall, ratesInRange, hoursInRange, unitInRange, yearInRange}
+use Rattle.settlement.specs.Capacity.{committed, unforced, peakRated, available, quarters, limit, limited, unitShortfall, unitLimit, limitedShortfall}
+use Rattle.settlement.specs.Capacity.{ratesInRange, hoursInRange, unitInRange, yearInRange}
 use Rattle.settlement.specs.Money.{wattsInRange, areaInRange}
+use Rattle.settlement.proofs.Tests.{both-true}
 use Rattle.settlement.proofs.Sizes.{difference-size}
 
 pub committed-at-most : (i e v days : ℕ) → committed i e v days ≤ i
@@ -41,15 +42,6 @@ available-at-most t i g sh foh d = go (eqb (sh + foh) 0) (ltb sh 50) (unforced-a
     go false true year peak = omega arith
     go false false year peak = peak
 
-pub limited-at-most : (l : ℕ) (s : ℤ) → limited l s ≤ℤ pos l
-unfolding limited
-limited-at-most l (pos s) = go (ltb l s) refl
-  where
-    go : (t : Bool) → ltb l s ≡ t → cond t (pos l) (pos s) ≤ℤ pos l
-    go true q = ≤ℤ-refl (pos l)
-    go false q = leZ-yes (le→leb s l (ltb-false l s q))
-limited-at-most l (negsuc x) = leZ-yes tt
-
 pub not-above-untouched : (l : ℕ) (s : ℤ) → s ≤ℤ pos l → limited l s ≡ s
 unfolding limited
 not-above-untouched l (pos s) h = simp (le-ltb l s (leb→le s l (h .le)))
@@ -58,6 +50,15 @@ not-above-untouched l (negsuc x) h = refl
 pub excess-untouched : (l : ℕ) (s : ℤ) → s ≤ℤ pos 0 → limited l s ≡ s
 excess-untouched l (pos s) h = not-above-untouched l (pos s) (leZ-yes (le→leb s l (omega (arith, leb→le s 0 (h .le)))))
 excess-untouched l (negsuc x) h = not-above-untouched l (negsuc x) (leZ-yes tt)
+
+pub limited-at-most : (l : ℕ) (s : ℤ) → limited l s ≤ℤ pos l
+unfolding limited
+limited-at-most l (pos s) = go (ltb l s) refl
+  where
+    go : (t : Bool) → ltb l s ≡ t → cond t (pos l) (pos s) ≤ℤ pos l
+    go true q = ≤ℤ-refl (pos l)
+    go false q = leZ-yes (le→leb s l (ltb-false l s q))
+limited-at-most l (negsuc x) = leZ-yes tt
 
 pub quarters-at-most : (class : ℕ) → quarters class ≤ 4
 unfolding quarters
@@ -108,13 +109,13 @@ pub record UnitRange (u : UnitFacts) : Type 0 where
 pub unit-range : (u : UnitFacts) → unitInRange u ≡ true → UnitRange u
 unfolding unitInRange ratesInRange hoursInRange
 unit-range u q =
-    let (i, q₁) = and-eq-true-iff _ _ .0 q in
-    let (rates, hours) = and-eq-true-iff _ _ .0 q₁ in
-    let (e, q₂) = and-eq-true-iff _ _ .0 rates in
-    let (f, q₃) = and-eq-true-iff _ _ .0 q₂ in
-    let (g, class) = and-eq-true-iff _ _ .0 q₃ in
-    let (sh, q₄) = and-eq-true-iff _ _ .0 hours in
-    let (foh, d) = and-eq-true-iff _ _ .0 q₄ in
+    let (i, q₁) = both-true q in
+    let (rates, hours) = both-true q₁ in
+    let (e, q₂) = both-true rates in
+    let (f, q₃) = both-true q₂ in
+    let (g, class) = both-true q₃ in
+    let (sh, q₄) = both-true hours in
+    let (foh, d) = both-true q₄ in
     record {
       installed-from = within-from 1 5000000 _ i;
       installed-to = within-to 1 5000000 _ i;
@@ -136,11 +137,8 @@ pub record YearRange (v days : ℕ) : Type 0 where
 pub year-range : (v days : ℕ) → yearInRange v days ≡ true → YearRange v days
 unfolding yearInRange
 year-range v days q =
-    let (e, d) = and-eq-true-iff _ _ .0 q in
+    let (e, d) = both-true q in
     record { v-to = leb-true _ _ e; days-from = within-from 365 366 _ d; days-to = within-to 365 366 _ d }
-
-pub both-true : {a b : Bool} → (a && b) ≡ true → (a ≡ true) × (b ≡ true)
-both-true {a} {b} q = and-eq-true-iff a b .0 q
 
 pub ranges : (u : UnitFacts) (v days : ℕ) → (unitInRange u && yearInRange v days) ≡ true → UnitRange u × YearRange v days
 ranges u v days q = let (unit, year) = both-true q in (unit-range u unit, year-range v days year)

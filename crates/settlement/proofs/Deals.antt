@@ -1,24 +1,21 @@
 -- One turn of a split's loop, and what its tests say.
 use mathlib.Core.Path.{_≡_, refl, sym, ap, _∙_}
-use mathlib.Core.Bool.{Bool, true, false, cond, _&&_, and-eq-true-iff}
+use mathlib.Core.Bool.{Bool, true, false, cond, _&&_}
 use mathlib.Core.List.{List}
 use Prim.Native.Nat.{ℕ, zero, suc, _+_, _-_, _*_, _/_, _^_, _≤_, _<_, min}
-use native.Mathlib.Nat.{le-trans, mul-comm, mul-zero, zero-mul, mul-le-mul-left, le-mul-of-pos-right, zero-div, div-zero, div-mul-le-self, le-div-iff-mul-le, div-lt-iff-lt-mul}
+use native.Mathlib.Nat.{mul-comm, mul-le-mul-left, le-mul-of-pos-right, le-div-iff-mul-le, div-lt-iff-lt-mul}
 use native.Mathlib.Omega.{arith}
-use lib.Dec.{eqb, ltb, leb}
+use lib.Dec.{ltb, leb}
 use lib.ListN.{length, List·getD-eq-default}
-use borrow.Author.Tests.{ltb-true, ltb-false, lt-ltb, le-leb, lt-leb, leb-true, leb-false, eqb-true, eqb-false, eq-eqb, ne-eqb}
+use borrow.Author.Tests.{ltb-true, ltb-false, lt-ltb, le-leb, lt-leb}
 use Rattle.calendar.specs.Sum.{sumBelow}
 use Rattle.calendar.proofs.Sums.{sum-one-more, sum-grows}
 use Rattle.settlement.specs.Lists.{listBelow, element}
 use Rattle.settlement.specs.Split.{firstShares, split, splitAnswer}
-use Rattle.settlement.proofs.Lists.{length-below, element-below, list-same}
-use Rattle.settlement.proofs.Sums.{sum-same}
+use Rattle.settlement.proofs.Tests.{both-true}
+use Rattle.settlement.proofs.Lists.{element-below, list-same}
+use Rattle.settlement.proofs.CappedSums.{total}
 use Rattle.settlement.proofs.Splits.{floor-grows, share-at-most, no-amount, no-weights}
-
--- the sum of a list's elements
-abbrev pub total : List ℕ → ℕ
-total ws = sumBelow (length ws) (element ws)
 
 -- past a list's end its sum does not grow
 pub sum-past : (ws : List ℕ) (k : ℕ) → sumBelow k (element ws) ≤ total ws
@@ -63,17 +60,14 @@ product-test {a} {z} ha hz = simp (lt-ltb 0 a ha, lt-ltb 0 z hz) (go (ltb (a * z
     go true q = le-leb a _ (le-div-iff-mul-le hz .1 (omega (arith, ltb-true (a * z) (2 ^ 63) q)))
     go false q = lt-leb a _ (div-lt-iff-lt-mul hz .1 (omega (arith, ltb-false (a * z) (2 ^ 63) q)))
 
-pub capped-more : (k m : ℕ) (f : ℕ → ℕ) {s r : ℕ} → s ≡ min (sumBelow k f) m → r ≡ min (s + f k) m → r ≡ min (sumBelow (k + 1) f) m
-capped-more k m f p q = omega (arith, sum-one-more k f)
-
 abbrev Found : ℕ → ℕ → Bool
 Found a z = ltb 0 a && (ltb 0 z && ltb (a * z) (2 ^ 63))
 
 found-parts : (a z : ℕ) → Found a z ≡ true → (0 < a) × (0 < z) × (a * z < 2 ^ 63)
 found-parts a z e =
-    let first = and-eq-true-iff (ltb 0 a) (ltb 0 z && ltb (a * z) (2 ^ 63)) .0 e in
-    let rest = and-eq-true-iff (ltb 0 z) (ltb (a * z) (2 ^ 63)) .0 (first .1) in
-    (ltb-true 0 a (first .0), ltb-true 0 z (rest .0), ltb-true (a * z) (2 ^ 63) (rest .1))
+    let (some, rest) = both-true e in
+    let (somebody, within) = both-true rest in
+    (ltb-true 0 a some, ltb-true 0 z somebody, ltb-true (a * z) (2 ^ 63) within)
 
 -- where there are shares, the capped sum is the sum
 pub shares-found : (a t : ℕ) {z : ℕ} → z ≡ min t (2 ^ 64 - 1) → Found a z ≡ true → (z ≡ t) × (0 < z) × (a * z < 2 ^ 63) × (a * t < 2 ^ 63)
@@ -107,29 +101,6 @@ answer-none a ws n {z} isz e = go (ltb (a * total ws) (2 ^ 63)) refl
     go : (t : Bool) → ltb (a * total ws) (2 ^ 63) ≡ t → listBelow n (λ k. 0) ≡ cond t (listBelow n shares) (listBelow n (λ k. 0))
     go false q = refl
     go true q = list-same n (λ k. 0) shares (λ k b. nothing (ltb 0 a) (ltb 0 z) refl refl (ltb-true (a * total ws) (2 ^ 63) q) k)
-
-pub capped-sixteen : (ws : List ℕ) (m : ℕ) {v : ℕ} → length ws ≡ 16 → v ≡ min (total ws) m → v ≡ min (sumBelow 16 (element ws)) m
-capped-sixteen ws m sixteen e = e ∙ rw sixteen
-
--- a list that was filled, by what filled it
-pub capped-below : (f : ℕ → ℕ) (m : ℕ) {l : List ℕ} {v : ℕ} → l ≡ listBelow 16 f → v ≡ min (total l) m → v ≡ min (sumBelow 16 f) m
-capped-below f m {l} filled e =
-    capped-sixteen l m (ap length filled ∙ length-below 16 f) e
-    ∙ ap (λ (n : ℕ). min n m) (rw filled (sum-same 16 (element (listBelow 16 f)) f (λ k h. element-below 16 f k 0 h)))
-
-pub capped-test : (t limit : ℕ) {v : ℕ} → limit < 2 ^ 64 - 1 → v ≡ min t (2 ^ 64 - 1) → leb t limit ≡ leb v limit
-capped-test t limit {v} h e = go (leb v limit) refl
-  where
-    go : (b : Bool) → leb v limit ≡ b → leb t limit ≡ b
-    go true q = le-leb t limit (omega (arith, leb-true v limit q))
-    go false q = lt-leb t limit (omega (arith, leb-false v limit q))
-
-pub capped-zero : (t m : ℕ) {v : ℕ} → v ≡ min t (m + 1) → eqb v 0 ≡ eqb t 0
-capped-zero t m {v} e = go (eqb t 0) refl
-  where
-    go : (b : Bool) → eqb t 0 ≡ b → eqb v 0 ≡ b
-    go true q = eq-eqb v 0 (omega (arith, eqb-true t 0 q))
-    go false q = let some : (t ≡ 0 → ⊥) = eqb-false t 0 q in ne-eqb v 0 (λ z. some (omega arith))
 
 -- what `split_by_party` answers for party k, where the product fits
 pub record PartyShare (a : ℕ) (ws r : List ℕ) (k : ℕ) : Type 0 where

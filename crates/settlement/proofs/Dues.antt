@@ -1,8 +1,8 @@
 -- From nets to dues, list by list: what each step of an area's money holds, by the definitions.
-use mathlib.Core.Path.{_≡_, refl, sym, ap, _∙_}
+use mathlib.Core.Path.{_≡_, refl, ap, _∙_}
 use mathlib.Core.Bool.{Bool, true, false, cond, _&&_}
 use mathlib.Core.List.{List}
-use Prim.Native.Nat.{ℕ, _+_, _-_, _*_, _^_, _≤_, _<_}
+use Prim.Native.Nat.{ℕ, _+_, _-_, _^_, _<_}
 use native.Mathlib.Omega.{arith}
 use lib.IntN.{ℤ, pos, subℕ}
 use lib.Dec.{ltb, eqb}
@@ -14,19 +14,16 @@ use Rattle.settlement.specs.Signed.{above, below}
 use Rattle.settlement.specs.Quantities.{cents}
 use Rattle.settlement.specs.Split.{firstShares, split}
 use Rattle.settlement.specs.Money.{priced, charge, ceiling, charges, ceilings, credit, left, loadShare, due, isUnplaced, areaInRange, centsOf}
-use Rattle.settlement.proofs.Lists.{element-below, list-same}
+use Rattle.settlement.proofs.Tests.{chosen, refused}
 use Rattle.settlement.proofs.Sums.{sum-same}
-use Rattle.settlement.proofs.Formulas.{chosen, refused}
+use Rattle.settlement.proofs.Lists.{element-below, list-same, sum-filled}
 use Rattle.settlement.proofs.Splits.{shares-at-most}
-use Rattle.settlement.proofs.Monies.{credits-add-up}
+use Rattle.settlement.proofs.Balance.{credits-add-up}
 use Rattle.settlement.proofs.Bounds.{charges-bound}
 
 -- sixteen amounts of money, none below zero
 abbrev pub money : (ℕ → ℕ) → List Cents
 money f = listBelow 16 (λ p. cents (pos (f p)))
-
-pub sum-filled : (f : ℕ → ℕ) {l : List ℕ} → l ≡ listBelow 16 f → sumBelow 16 (element l) ≡ sumBelow 16 f
-sum-filled f e = rw e (sum-same 16 (element (listBelow 16 f)) f (λ k h. element-below 16 f k 0 h))
 
 pub priced-filled : (x : ℕ → ℕ) (price days : ℕ) {l : List ℕ} {m : List Cents} → l ≡ listBelow 16 x
     → m ≡ money (λ p. priced (element l p) price days) → m ≡ money (λ p. priced (x p) price days)

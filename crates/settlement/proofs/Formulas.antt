@@ -1,6 +1,6 @@
 -- The formulas' values in range fit 64 bits, and each is what its definition says.
-use mathlib.Core.Path.{_≡_, refl, sym, _∙_}
-use mathlib.Core.Bool.{Bool, true, false, cond, _&&_}
+use mathlib.Core.Path.{_≡_, refl}
+use mathlib.Core.Bool.{true}
 use Prim.Native.Nat.{ℕ, _+_, _-_, _*_, _/_, _≤_, _<_}
 use native.Mathlib.Nat.{le-trans, not-suc-le-zero, mul-pos, mul-le-mul, div-le-self}
 use native.Mathlib.Omega.{arith}
@@ -71,27 +71,9 @@ unfolding above limited
 under-limit l (pos s) h = simp (le-ltb l s h)
 under-limit l (negsuc x) h = refl
 
--- what a flag that was tested says of the test's definition
-pub flag : {f t v : Bool} → f ≡ t → f ≡ v → t ≡ v
-flag e taken = sym e ∙ taken
-
--- a test that passed leaves the next one; one that failed ends the row
-pub passed : {t u : Bool} → t ≡ true → u ≡ (t && u)
-passed e = rw e
-
-pub failed : {t : Bool} (u : Bool) → t ≡ false → false ≡ (t && u)
-failed u e = rw e
-
 pub record PricedFits (watts price days : ℕ) : Type 0 where
   pub once : watts * price ≤ 8000000000000
   pub whole : watts * price * days ≤ 2928000000000000
 
 pub priced-fits : {watts price days : ℕ} → watts ≤ 160000000 → price ≤ 50000 → days ≤ 366 → PricedFits watts price days
 priced-fits w p d = record { once = mul-le-mul {n₂ = 160000000} {m₂ = 50000} w p; whole = priced-bound _ _ _ w p d }
-
--- a choice by a test that passed, and by one that failed
-pub chosen : {A : Type 0} {t : Bool} {a : A} (b : A) → t ≡ true → a ≡ cond t a b
-chosen b e = rw e
-
-pub refused : {A : Type 0} {t : Bool} (a : A) {b : A} → t ≡ false → b ≡ cond t a b
-refused a e = rw e

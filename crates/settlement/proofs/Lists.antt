@@ -3,7 +3,7 @@ use mathlib.Core.Path.{_≡_, refl, sym, ap, _∙_}
 use mathlib.Core.List.{List, [], _∷_, _++_}
 use mathlib.Core.Bool.{Bool, true, false}
 use Prim.Native.Nat.{ℕ, zero, suc, _+_, _≤_, _<_}
-use native.Mathlib.Nat.{not-suc-le-zero, zero-add, add-zero}
+use native.Mathlib.Nat.{not-suc-le-zero, add-zero}
 use native.Mathlib.Numerals.{add-one}
 use native.Mathlib.Omega.{arith}
 use lib.Dec.{ltb}
@@ -12,6 +12,7 @@ use lib.Seq.{take-suc-set, take-all, getD-append-add}
 use borrow.Author.Tests.{ltb-true, ltb-false}
 use Rattle.calendar.specs.Sum.{sumBelow}
 use Rattle.settlement.specs.Lists.{listBelow, element}
+use Rattle.settlement.proofs.Sums.{sum-same}
 
 module _ {A : Type 0} where
   pub length-below : (n : ℕ) (f : ℕ → A) → length (listBelow n f) ≡ n
@@ -61,3 +62,6 @@ module _ {A : Type 0} where
 
     pub filled-all : {i : ℕ} → Filled n f out i → n ≤ i → out ≡ listBelow n f
     filled-all {i} h b = let e : i ≡ n = omega (arith, h .inside) in sym (take-all i out (omega (arith, h .long))) ∙ h .made ∙ rw e
+
+pub sum-filled : (f : ℕ → ℕ) {l : List ℕ} → l ≡ listBelow 16 f → sumBelow 16 (element l) ≡ sumBelow 16 f
+sum-filled f e = rw e (sum-same 16 (element (listBelow 16 f)) f (λ k h. element-below 16 f k 0 h))

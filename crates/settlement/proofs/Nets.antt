@@ -4,7 +4,7 @@ use mathlib.Core.Bool.{Bool, true, false, cond, _&&_}
 use Prim.Native.Nat.{ℕ, zero, suc, _+_, _-_, _*_, _^_, _≤_, _<_, min}
 use native.Mathlib.Nat.{sub-zero, zero-mul}
 use native.Mathlib.Omega.{arith}
-use lib.IntN.{ℤ, pos, negsuc, natAbs, negℤ, subℕ, _+ℤ_}
+use lib.IntN.{ℤ, pos, negsuc, natAbs, negℤ, subℕ}
 use lib.Dec.{leb}
 use borrow.Author.Tests.{le-leb, lt-leb, leb-true, leb-false}
 use Rattle.calendar.specs.Range.{within}
@@ -13,9 +13,10 @@ use Rattle.settlement.specs.Signed.{above, below}
 use Rattle.settlement.specs.Capacity.{limitedShortfall, unitInRange, yearInRange, shortfallAnswer}
 use Rattle.settlement.specs.Split.{withSign}
 use Rattle.settlement.specs.Shares.{netWith}
+use Rattle.settlement.proofs.Tests.{both-true}
 use Rattle.settlement.proofs.Signs.{sub-positive, sub-negative}
 use Rattle.settlement.proofs.SignedSums.{signed-parts, add-differences}
-use Rattle.settlement.proofs.Capacities.{YearRange, both-true, ranges}
+use Rattle.settlement.proofs.Capacities.{YearRange, ranges}
 use Rattle.settlement.proofs.Bounds.{split-bound}
 
 from-zero : (n : ℕ) → subℕ n 0 ≡ pos n

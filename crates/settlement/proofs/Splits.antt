@@ -1,8 +1,8 @@
 -- Laws of the split.
 use mathlib.Core.Path.{_≡_, refl, sym, _∙_}
 use Prim.Native.Nat.{ℕ, zero, suc, _+_, _*_, _/_, _≤_, _<_, min, zero-le}
-use native.Mathlib.Nat.{le-refl, le-trans, mul-comm, mul-zero, zero-mul, mul-add, mul-le-mul-left}
-use native.Mathlib.Nat.{div-zero, zero-div, div-mul-le-self, le-div-iff-mul-le, div-le-of-le-mul, mul-div-cancel, add-mul-div-right}
+use native.Mathlib.Nat.{le-refl, le-trans, mul-comm, mul-zero, zero-mul, mul-add, mul-le-mul-left, div-zero, zero-div, div-mul-le-self, le-div-iff-mul-le}
+use native.Mathlib.Nat.{div-le-of-le-mul, mul-div-cancel, add-mul-div-right}
 use native.Mathlib.Numerals.{add-one}
 use native.Mathlib.Omega.{arith}
 use lib.IntN.{ℤ, pos, negsuc, subℕ}

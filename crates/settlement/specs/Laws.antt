@@ -10,7 +10,7 @@ use Rattle.settlement.specs.Signed.{above, below, sumBelowℤ}
 use Rattle.settlement.specs.Capacity.{wattDays, committed, available, limited, limitedShortfall, unitInRange}
 use Rattle.settlement.specs.Split.{split, splitSigned}
 use Rattle.settlement.specs.Shares.{net}
-use Rattle.settlement.specs.Money.{charge, ceiling, charges, ceilings, credit, left, loadShare, due, isUnplaced, areaInRange}
+use Rattle.settlement.specs.Money.{ceiling, charges, ceilings, credit, left, loadShare, due, isUnplaced, areaInRange}
 
 -- the split, for any number n of weights w
 pub record SplitLaws : Type 0 where

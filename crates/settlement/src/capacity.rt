@@ -7,7 +7,7 @@ use crate::amounts::unforced_watts;
 use calendar::range::within;
 ghost use mathlib.Core.Path.{_≡_};
 ghost use mathlib.Core.Bool.{true, _&&_};
-ghost use Prim.Native.Nat.{_+_, _*_, _/_, _^_, _≤_, _<_, max};
+ghost use Prim.Native.Nat.{_+_, _≤_, _<_, max};
 ghost use lib.IntN.{pos};
 ghost use Rattle.settlement.specs.Signed.{above};
 ghost use Rattle.settlement.specs.Quantities.{installedWatts, unforcedWatts};
@@ -71,23 +71,14 @@ fn unforced(w: InstalledWatts, rate: u64) -> UnforcedWatts
     unforced_watts(w.0 * (WHOLE - rate) / WHOLE)
 }
 
-// whole × part / sum
-fn share_of(whole: u64, part: u64, sum: u64) -> u64
-    requires { ⌜ (whole * part < 2 ^ 64) × (0 < sum) ⌝ }
-    ensures { λ r. ⌜ r ≡ whole * part / sum ⌝ }
-{
-    whole * part / sum
-}
-
 // P before rule (f) of section 10, by one floor.
 fn peak_rated(t: InstalledWatts, u: UnitFacts) -> UnforcedWatts
     requires { ⌜ (t .0 ≤ 5000000) × (unitInRange u ≡ true) × (0 < u .sh + u .foh) ⌝ }
     ensures { λ r. ⌜ r ≡ unforcedWatts (pos (peakRated (t .0) (u .installed .0) (u .sh) (u .foh) (u .d))) ⌝ }
 {
     let i = u.installed;
-    let served = u.sh * i.0 - u.d;
-    let hours = i.0 * (u.sh + u.foh);
-    unforced_watts(share_of(t.0, served, hours))
+    let p = t.0 * (u.sh * i.0 - u.d) / (i.0 * (u.sh + u.foh));
+    unforced_watts(p)
 }
 
 // The higher of two that are not below zero.

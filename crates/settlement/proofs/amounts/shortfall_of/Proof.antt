@@ -2,15 +2,10 @@ use borrow.Author.Needs.{needs}
 use Rattle.settlement.proofs.Signs.{above-read}
 use Rattle.settlement.proofs.amounts.shortfall_of.Statement.{statement}
 use Rattle.settlement.proofs.amounts.shortfall_of.Tie as tie
-use Rattle.settlement.proofs.amounts.shortfall_of.Reads as reads
-use Rattle.settlement.proofs.amounts.shortfall_of.Lts as lts
-use Rattle.settlement.proofs.signed.above.Reads as above-reads
 
--- src/amounts.rt:17:5
 above-requires : tie.Need-above-requires
 above-requires c κs = search needs
 
--- src/amounts.rt:14:1
 returns : tie.Need-returns
 returns c = above-read _ (c .before .struct-told .given .0 .1) (c .above .ensures)
 

@@ -1,18 +1,14 @@
-use borrow.Author.Needs.{needs}
 use mathlib.Core.Path.{ap}
+use borrow.Author.Needs.{needs}
 use mir.Syntax.{w64}
 use mir.Facts.{toZ-pos}
 use Rattle.settlement.specs.Quantities.{unforcedWatts}
 use Rattle.settlement.proofs.amounts.unforced_watts.Statement.{statement}
 use Rattle.settlement.proofs.amounts.unforced_watts.Tie as tie
-use Rattle.settlement.proofs.amounts.unforced_watts.Reads as reads
-use Rattle.settlement.proofs.amounts.unforced_watts.Lts as lts
 
--- src/capacity.rt:68:19
 cast-t2 : tie.Need-cast-t2
 cast-t2 c = search needs
 
--- src/capacity.rt:64:1
 returns : tie.Need-returns
 returns c = ap unforcedWatts (toZ-pos w64 (c .pre))
 

@@ -1,45 +1,33 @@
-use borrow.Author.Needs.{needs}
 use mathlib.Core.Path.{_∙_}
+use native.Mathlib.Omega.{arith}
+use borrow.Author.Needs.{needs}
 use borrow.Author.Tests.{ne-eqb, lt-ltb, le-ltb}
 use Rattle.settlement.specs.Signed.{above}
 use Rattle.settlement.specs.Capacity.{available}
 use Rattle.settlement.proofs.Capacities.{unit-range}
-use native.Mathlib.Omega.{arith}
 use Rattle.settlement.proofs.capacity.available.Statement.{statement}
 use Rattle.settlement.proofs.capacity.available.Tie as tie
-use Rattle.settlement.proofs.capacity.available.Reads as reads
-use Rattle.settlement.proofs.capacity.available.Lts as lts
-use Rattle.settlement.proofs.capacity.higher.Reads as higher-reads
-use Rattle.settlement.proofs.capacity.peak_rated.Reads as peak-rated-reads
-use Rattle.settlement.proofs.capacity.unforced.Reads as unforced-reads
 
--- src/capacity.rt:100:9
 unforced-requires : tie.Need-unforced-requires
 unforced-requires c κs = (c .pre .0, unit-range _ (c .pre .1) .g-to)
 
--- src/capacity.rt:101:8
 add-if1 : tie.Need-add-if1
 add-if1 c = omega (arith, unit-range _ (c .before .before .pre .1))
 
--- src/capacity.rt:102:9
 returns : tie.Need-returns
 unfolding available
 returns c = c .before .before .unforced .ensures ∙ simp (c .if1 .taken)
 
--- src/capacity.rt:104:9
 peak-rated-requires : tie.Need-peak-rated-requires
 peak-rated-requires c κs = search needs
 
--- src/capacity.rt:106:9
 higher-requires : tie.Need-higher-requires
 higher-requires c κs = search needs
 
--- src/capacity.rt:106:9
 returns-2 : tie.Need-returns-2
 unfolding available above
 returns-2 c = c .higher .ensures ∙ simp (c .before .before .before .peak-rated .ensures, c .before .before .before .before .before .before .unforced .ensures, ne-eqb _ _ (c .before .before .before .before .if1 .left), lt-ltb _ _ (c .before .if2 .taken))
 
--- src/capacity.rt:96:1
 returns-3 : tie.Need-returns-3
 unfolding available
 returns-3 c = c .before .before .peak-rated .ensures ∙ simp (ne-eqb _ _ (c .before .before .before .if1 .left), le-ltb _ _ (c .if2 .left))

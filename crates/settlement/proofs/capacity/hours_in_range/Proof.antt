@@ -1,28 +1,23 @@
+use mathlib.Core.Path.{_∙_}
+use native.Mathlib.Omega.{arith}
 use borrow.Author.Tests.{le-leb, lt-leb}
 use Rattle.settlement.specs.Capacity.{hoursInRange}
-use Rattle.settlement.proofs.Formulas.{service-fits, passed}
-use native.Mathlib.Omega.{arith}
-use mathlib.Core.Path.{_∙_}
+use Rattle.settlement.proofs.Tests.{passed}
+use Rattle.settlement.proofs.Formulas.{service-fits}
 use Rattle.settlement.proofs.capacity.hours_in_range.Statement.{statement}
 use Rattle.settlement.proofs.capacity.hours_in_range.Tie as tie
-use Rattle.settlement.proofs.capacity.hours_in_range.Reads as reads
-use Rattle.settlement.proofs.capacity.hours_in_range.Lts as lts
 
--- src/capacity.rt:184:9
 returns : tie.Need-returns
 unfolding hoursInRange
 returns c = simp (lt-leb _ _ (c .if1 .taken))
 
--- src/capacity.rt:187:9
 returns-2 : tie.Need-returns-2
 unfolding hoursInRange
 returns-2 c = simp (le-leb _ _ (c .before .before .if1 .left), lt-leb _ _ (c .if2 .taken))
 
--- src/capacity.rt:190:12
 mul-result : tie.Need-mul-result
 mul-result c = omega (arith, service-fits (c .before .before .before .before .before .if1 .left) (c .before .before .before .before .before .before .before .pre))
 
--- src/capacity.rt:179:1
 returns-3 : tie.Need-returns-3
 unfolding hoursInRange
 returns-3 c = passed (le-leb _ _ (c .before .before .before .before .if2 .left)) ∙ passed (le-leb _ _ (c .before .before .before .before .before .before .if1 .left))

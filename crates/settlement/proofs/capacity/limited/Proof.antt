@@ -1,32 +1,23 @@
-use borrow.Author.Needs.{needs}
 use mathlib.Core.Path.{sym, ap, _∙_}
+use native.Mathlib.Omega.{arith}
+use borrow.Author.Needs.{needs}
 use Rattle.settlement.specs.Quantities.{unforcedWatts}
 use Rattle.settlement.proofs.Formulas.{over-limit, under-limit}
-use native.Mathlib.Omega.{arith}
 use Rattle.settlement.proofs.capacity.limited.Statement.{statement}
 use Rattle.settlement.proofs.capacity.limited.Tie as tie
-use Rattle.settlement.proofs.capacity.limited.Reads as reads
-use Rattle.settlement.proofs.capacity.limited.Lts as lts
-use Rattle.settlement.proofs.amounts.shortfall_of.Reads as shortfall-of-reads
-use Rattle.settlement.proofs.amounts.unforced_watts.Reads as unforced-watts-reads
 
--- src/capacity.rt:140:9
 shortfall-of-requires : tie.Need-shortfall-of-requires
 shortfall-of-requires c κs = search needs
 
--- src/capacity.rt:141:15
 shortfall-of-requires-2 : tie.Need-shortfall-of-requires-2
 shortfall-of-requires-2 c κs = search needs
 
--- src/capacity.rt:142:9
 unforced-watts-requires : tie.Need-unforced-watts-requires
 unforced-watts-requires c κs = search needs
 
--- src/capacity.rt:137:1
 returns : tie.Need-returns
 returns c = c .unforced-watts .ensures ∙ ap unforcedWatts (rw (c .before .before .before .shortfall-of .ensures .0) (sym (over-limit _ _ (omega arith))))
 
--- src/capacity.rt:137:1
 returns-2 : tie.Need-returns-2
 returns-2 c = ap unforcedWatts (sym (under-limit _ _ (omega arith)))
 

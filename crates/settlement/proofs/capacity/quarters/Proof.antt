@@ -1,22 +1,17 @@
+use native.Mathlib.Omega.{arith}
 use borrow.Author.Tests.{ne-eqb}
 use Rattle.settlement.specs.Capacity.{quarters}
-use native.Mathlib.Omega.{arith}
 use Rattle.settlement.proofs.capacity.quarters.Statement.{statement}
 use Rattle.settlement.proofs.capacity.quarters.Tie as tie
-use Rattle.settlement.proofs.capacity.quarters.Reads as reads
-use Rattle.settlement.proofs.capacity.quarters.Lts as lts
 
--- src/capacity.rt:124:1
 returns : tie.Need-returns
 unfolding quarters
 returns c = (simp (c .match .keys1), omega arith)
 
--- src/capacity.rt:124:1
 returns-2 : tie.Need-returns-2
 unfolding quarters
 returns-2 c = (simp (c .match .keys2), omega arith)
 
--- src/capacity.rt:124:1
 returns-3 : tie.Need-returns-3
 unfolding quarters
 returns-3 c = (simp (ne-eqb _ _ (c .match .rest .0 .1), ne-eqb _ _ (c .match .rest .1)), omega arith)

@@ -1,40 +1,29 @@
-use borrow.Author.Needs.{needs}
 use mathlib.Core.Path.{sym, _∙_}
+use mathlib.Core.Bool.{_&&_}
+use borrow.Author.Needs.{needs}
 use Rattle.calendar.proofs.Tests.{within-to}
 use Rattle.settlement.specs.Capacity.{ratesInRange, hoursInRange, unitInRange}
-use Rattle.settlement.proofs.Formulas.{flag, passed, failed}
-use mathlib.Core.Bool.{_&&_}
+use Rattle.settlement.proofs.Tests.{flag, passed, failed}
 use Rattle.settlement.proofs.capacity.unit_in_range.Statement.{statement}
 use Rattle.settlement.proofs.capacity.unit_in_range.Tie as tie
-use Rattle.settlement.proofs.capacity.unit_in_range.Reads as reads
-use Rattle.settlement.proofs.capacity.unit_in_range.Lts as lts
-use Rattle.calendar.proofs.range.within.Reads as within-reads
-use Rattle.settlement.proofs.capacity.hours_in_range.Reads as hours-in-range-reads
-use Rattle.settlement.proofs.capacity.rates_in_range.Reads as rates-in-range-reads
 
--- src/capacity.rt:197:8
 within-requires : tie.Need-within-requires
 within-requires c κs = search needs
 
--- src/capacity.rt:198:12
 rates-in-range-requires : tie.Need-rates-in-range-requires
 rates-in-range-requires c κs = search needs
 
--- src/capacity.rt:199:13
 hours-in-range-requires : tie.Need-hours-in-range-requires
 hours-in-range-requires c κs = within-to 1 5000000 _ (sym (c .before .before .before .within .ensures) ∙ c .before .before .if1 .taken)
 
--- src/capacity.rt:199:13
 returns : tie.Need-returns
 unfolding unitInRange
 returns c = c .hours-in-range .ensures ∙ passed (flag (c .before .before .rates-in-range .ensures) (c .before .if2 .taken)) ∙ passed (flag (c .before .before .before .before .within .ensures) (c .before .before .before .if1 .taken))
 
--- src/capacity.rt:193:1
 returns-2 : tie.Need-returns-2
 unfolding unitInRange
 returns-2 c = failed (hoursInRange _) (flag (c .before .rates-in-range .ensures) (c .if2 .left)) ∙ passed (flag (c .before .before .before .within .ensures) (c .before .before .if1 .taken))
 
--- src/capacity.rt:193:1
 returns-3 : tie.Need-returns-3
 unfolding unitInRange
 returns-3 c = failed (ratesInRange _ && hoursInRange _) (flag (c .before .within .ensures) (c .if1 .left))

@@ -1,37 +1,29 @@
+use native.Mathlib.Omega.{arith}
 use borrow.Author.Needs.{needs}
 use borrow.Author.Tests.{le-leb, lt-leb}
 use Rattle.settlement.specs.Capacity.{wattDays, wattDaysAnswer}
 use Rattle.settlement.proofs.Formulas.{watt-days-fit}
-use native.Mathlib.Omega.{arith}
 use Rattle.settlement.proofs.capacity.watt_days.Statement.{statement}
 use Rattle.settlement.proofs.capacity.watt_days.Tie as tie
-use Rattle.settlement.proofs.capacity.watt_days.Reads as reads
-use Rattle.settlement.proofs.capacity.watt_days.Lts as lts
 
--- src/capacity.rt:38:9
 returns : tie.Need-returns
 unfolding wattDaysAnswer
 returns c = simp (lt-leb _ _ (c .if1 .taken))
 
--- src/capacity.rt:41:9
 returns-2 : tie.Need-returns-2
 unfolding wattDaysAnswer
 returns-2 c = simp (le-leb _ _ (c .before .if1 .left), lt-leb _ _ (c .if2 .taken))
 
--- src/capacity.rt:44:9
 returns-3 : tie.Need-returns-3
 unfolding wattDaysAnswer
 returns-3 c = simp (le-leb _ _ (c .before .before .if1 .left), le-leb _ _ (c .before .if2 .left), lt-leb _ _ (c .if3 .taken))
 
--- src/capacity.rt:46:14
 add-result : tie.Need-add-result
 add-result c = search needs
 
--- src/capacity.rt:46:5
 mul-result : tie.Need-mul-result
 mul-result c = omega (arith, watt-days-fit (c .before .before .before .args .first) (c .before .before .if1 .left) (c .if3 .left))
 
--- src/capacity.rt:34:1
 returns-4 : tie.Need-returns-4
 unfolding wattDaysAnswer wattDays
 returns-4 c = simp (le-leb _ _ (c .before .before .if1 .left), le-leb _ _ (c .before .if2 .left), le-leb _ _ (c .if3 .left))

@@ -1,23 +1,17 @@
-use borrow.Author.Needs.{needs}
 use mathlib.Core.Path.{_∙_}
+use borrow.Author.Needs.{needs}
 use borrow.Author.Tests.{le-leb, lt-leb}
 use Rattle.settlement.specs.Capacity.{yearInRange}
 use Rattle.settlement.proofs.capacity.year_in_range.Statement.{statement}
 use Rattle.settlement.proofs.capacity.year_in_range.Tie as tie
-use Rattle.settlement.proofs.capacity.year_in_range.Reads as reads
-use Rattle.settlement.proofs.capacity.year_in_range.Lts as lts
-use Rattle.calendar.proofs.range.within.Reads as within-reads
 
--- src/capacity.rt:209:9
 returns : tie.Need-returns
 unfolding yearInRange
 returns c = simp (lt-leb _ _ (c .if1 .taken))
 
--- src/capacity.rt:211:5
 within-requires : tie.Need-within-requires
 within-requires c κs = search needs
 
--- src/capacity.rt:205:1
 returns-2 : tie.Need-returns-2
 unfolding yearInRange
 returns-2 c = c .within .ensures ∙ simp (le-leb _ _ (c .before .if1 .left))

@@ -1,4 +1,4 @@
-use Rattle.settlement.proofs.Figures.{figures-given}
+use Rattle.settlement.proofs.AllFigures.{figures-given}
 use Rattle.settlement.proofs.laws.figures.Statement.{statement}
 use Rattle.settlement.proofs.laws.figures.Tie as tie
 

@@ -1,4 +1,4 @@
-use Rattle.settlement.proofs.Monies.{credit-at-most, credits-add-up, paid-out, dues-balance}
+use Rattle.settlement.proofs.Balance.{credit-at-most, credits-add-up, paid-out, dues-balance}
 use Rattle.settlement.proofs.laws.money.Statement.{statement}
 use Rattle.settlement.proofs.laws.money.Tie as tie
 

@@ -1,15 +1,12 @@
 use mathlib.Core.Path.{refl}
 use Prim.Native.Nat.{_-_}
-use Rattle.settlement.proofs.Lists.{Filled, filled-none, filled-more, filled-all}
+use native.Mathlib.Omega.{arith}
+use borrow.Author.Needs.{needs}
 use Rattle.settlement.specs.Signed.{above}
 use Rattle.settlement.specs.Money.{centsOf}
-use borrow.Author.Needs.{needs}
-use native.Mathlib.Omega.{arith}
+use Rattle.settlement.proofs.Lists.{Filled, filled-none, filled-more, filled-all}
 use Rattle.settlement.proofs.money.amounts.Statement.{statement}
 use Rattle.settlement.proofs.money.amounts.Tie as tie
-use Rattle.settlement.proofs.money.amounts.Reads as reads
-use Rattle.settlement.proofs.money.amounts.Lts as lts
-use Rattle.settlement.proofs.amounts.amount_of.Reads as amount-of-reads
 
 abbrev Inv-loop : tie.InvT-loop
 Inv-loop money amounts₀ p₀ amounts p = Filled 16 (λ k. above (centsOf money k)) amounts p
@@ -17,43 +14,33 @@ Inv-loop money amounts₀ p₀ amounts p = Filled 16 (λ k. above (centsOf money
 abbrev μ-loop : tie.MeasureT-loop
 μ-loop money amounts₀ p₀ amounts p = 16 - p
 
--- src/money.rt:83:5
 loop-holds : tie.Need-loop-holds Inv-loop μ-loop
 loop-holds c = filled-none refl
 
--- src/money.rt:84:17
 mul-m : tie.Need-mul-m Inv-loop μ-loop
 mul-m c = search needs
 
--- src/money.rt:84:17
 array-copy-out-m : tie.Need-array-copy-out-m Inv-loop μ-loop
 array-copy-out-m c = search needs
 
--- src/money.rt:85:22
 amount-of-requires : tie.Need-amount-of-requires Inv-loop μ-loop
 amount-of-requires c κs = search needs
 
--- src/money.rt:85:9
 mul-amounts : tie.Need-mul-amounts Inv-loop μ-loop
 mul-amounts c = search needs
 
--- src/money.rt:85:9
 array-write-amounts : tie.Need-array-write-amounts Inv-loop μ-loop
 array-write-amounts c = search needs
 
--- src/money.rt:86:9
 add-p : tie.Need-add-p Inv-loop μ-loop
 add-p c = search needs
 
--- src/money.rt:83:5
 loop-less : tie.Need-loop-less Inv-loop μ-loop
 loop-less c = search needs
 
--- src/money.rt:83:5
 loop-again : tie.Need-loop-again Inv-loop μ-loop
 loop-again c = filled-more (c .before .before .before .loop .inv) (omega arith) (c .amount-of .ensures .0)
 
--- src/money.rt:78:1
 returns : tie.Need-returns Inv-loop μ-loop
 returns c = filled-all (c .before .loop .inv) (omega arith)
 

@@ -1,48 +1,37 @@
-use borrow.Author.Needs.{needs}
 use mathlib.Core.Path.{_∙_}
 use Prim.Native.Nat.{_-_, _^_}
+use native.Mathlib.Omega.{arith}
+use borrow.Author.Needs.{needs}
 use borrow.Author.Tests.{le-leb, lt-leb}
 use Rattle.settlement.specs.Money.{areaInRange}
-use Rattle.settlement.proofs.Formulas.{passed, failed}
-use Rattle.settlement.proofs.Deals.{capped-sixteen, capped-test}
-use native.Mathlib.Omega.{arith}
+use Rattle.settlement.proofs.Tests.{passed, failed}
+use Rattle.settlement.proofs.CappedSums.{capped-sixteen, capped-test}
 use Rattle.settlement.proofs.money.area_in_range.Statement.{statement}
 use Rattle.settlement.proofs.money.area_in_range.Tie as tie
-use Rattle.settlement.proofs.money.area_in_range.Reads as reads
-use Rattle.settlement.proofs.money.area_in_range.Lts as lts
-use Rattle.settlement.proofs.money.watts_in_range.Reads as watts-in-range-reads
-use Rattle.settlement.proofs.split.capped_sum.Reads as capped-sum-reads
 
--- src/money.rt:188:9
 returns : tie.Need-returns
 unfolding areaInRange
 returns c = failed _ (lt-leb _ _ (c .if1 .taken))
 
--- src/money.rt:191:9
 returns-2 : tie.Need-returns-2
 unfolding areaInRange
 returns-2 c = failed _ (lt-leb _ _ (c .if2 .taken)) ∙ passed (le-leb _ _ (c .before .if1 .left))
 
--- src/money.rt:193:35
 slice-aggregate-capped-sum : tie.Need-slice-aggregate-capped-sum
 slice-aggregate-capped-sum c = search needs
 
--- src/money.rt:193:24
 capped-sum-requires : tie.Need-capped-sum-requires
 capped-sum-requires c κs = search needs
 
--- src/money.rt:194:9
 returns-3 : tie.Need-returns-3
 unfolding areaInRange
 returns-3 c =
     failed _ (capped-test _ 1600000000 (omega arith) (capped-sixteen (c .before .before .before .before .before .args .t4) (2 ^ 64 - 1) (search needs) (c .before .capped-sum .ensures)) ∙ lt-leb _ _ (c .if3 .taken))
     ∙ passed (le-leb _ _ (c .before .before .before .if2 .left)) ∙ passed (le-leb _ _ (c .before .before .before .before .if1 .left))
 
--- src/money.rt:196:5
 watts-in-range-requires : tie.Need-watts-in-range-requires
 watts-in-range-requires c κs = search needs
 
--- src/money.rt:184:1
 returns-4 : tie.Need-returns-4
 unfolding areaInRange
 returns-4 c =

@@ -1,33 +1,24 @@
-use borrow.Author.Needs.{needs}
 use mathlib.Core.Path.{_∙_}
-use borrow.Author.Tests.{lt-ltb, le-ltb}
-use Rattle.settlement.proofs.Formulas.{chosen, refused}
 use native.Mathlib.Omega.{arith}
+use borrow.Author.Needs.{needs}
+use borrow.Author.Tests.{lt-ltb, le-ltb}
 use Rattle.settlement.specs.Signed.{above}
+use Rattle.settlement.proofs.Tests.{chosen, refused}
 use Rattle.settlement.proofs.money.credits.Statement.{statement}
 use Rattle.settlement.proofs.money.credits.Tie as tie
-use Rattle.settlement.proofs.money.credits.Reads as reads
-use Rattle.settlement.proofs.money.credits.Lts as lts
-use Rattle.settlement.proofs.amounts.amount_of.Reads as amount-of-reads
-use Rattle.settlement.proofs.money.split_cents.Reads as split-cents-reads
 
--- src/money.rt:148:8
 amount-of-requires : tie.Need-amount-of-requires
 amount-of-requires c κs = search needs
 
--- src/money.rt:148:29
 amount-of-requires-2 : tie.Need-amount-of-requires-2
 amount-of-requires-2 c κs = search needs
 
--- src/money.rt:149:9
 split-cents-requires : tie.Need-split-cents-requires
 split-cents-requires c κs = search needs
 
--- src/money.rt:149:9
 returns : tie.Need-returns
 returns c = c .split-cents .ensures ∙ chosen _ (lt-ltb (above (c .before .before .before .before .args .charged .0)) (above (c .before .before .before .before .args .ceiling .0)) (omega arith))
 
--- src/money.rt:141:1
 returns-2 : tie.Need-returns-2
 returns-2 c = refused _ (le-ltb (above (c .before .before .before .args .charged .0)) (above (c .before .before .before .args .ceiling .0)) (omega arith))
 

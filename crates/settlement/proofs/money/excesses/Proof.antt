@@ -1,15 +1,12 @@
 use mathlib.Core.Path.{refl}
 use Prim.Native.Nat.{_-_}
-use Rattle.settlement.proofs.Lists.{Filled, filled-none, filled-more, filled-all}
+use native.Mathlib.Omega.{arith}
+use borrow.Author.Needs.{needs}
 use Rattle.settlement.specs.Signed.{below}
 use Rattle.settlement.specs.Shares.{wattsOf}
-use borrow.Author.Needs.{needs}
-use native.Mathlib.Omega.{arith}
+use Rattle.settlement.proofs.Lists.{Filled, filled-none, filled-more, filled-all}
 use Rattle.settlement.proofs.money.excesses.Statement.{statement}
 use Rattle.settlement.proofs.money.excesses.Tie as tie
-use Rattle.settlement.proofs.money.excesses.Reads as reads
-use Rattle.settlement.proofs.money.excesses.Lts as lts
-use Rattle.settlement.proofs.amounts.excess_of.Reads as excess-of-reads
 
 abbrev Inv-loop : tie.InvT-loop
 Inv-loop nets parts₀ p₀ parts p = Filled 16 (λ k. below (wattsOf nets k)) parts p
@@ -17,43 +14,33 @@ Inv-loop nets parts₀ p₀ parts p = Filled 16 (λ k. below (wattsOf nets k)) p
 abbrev μ-loop : tie.MeasureT-loop
 μ-loop nets parts₀ p₀ parts p = 16 - p
 
--- src/money.rt:49:5
 loop-holds : tie.Need-loop-holds Inv-loop μ-loop
 loop-holds c = filled-none refl
 
--- src/money.rt:50:19
 mul-net : tie.Need-mul-net Inv-loop μ-loop
 mul-net c = search needs
 
--- src/money.rt:50:19
 array-copy-out-net : tie.Need-array-copy-out-net Inv-loop μ-loop
 array-copy-out-net c = search needs
 
--- src/money.rt:51:20
 excess-of-requires : tie.Need-excess-of-requires Inv-loop μ-loop
 excess-of-requires c κs = search needs
 
--- src/money.rt:51:9
 mul-parts : tie.Need-mul-parts Inv-loop μ-loop
 mul-parts c = search needs
 
--- src/money.rt:51:9
 array-write-parts : tie.Need-array-write-parts Inv-loop μ-loop
 array-write-parts c = search needs
 
--- src/money.rt:52:9
 add-p : tie.Need-add-p Inv-loop μ-loop
 add-p c = search needs
 
--- src/money.rt:49:5
 loop-less : tie.Need-loop-less Inv-loop μ-loop
 loop-less c = search needs
 
--- src/money.rt:49:5
 loop-again : tie.Need-loop-again Inv-loop μ-loop
 loop-again c = filled-more (c .before .before .before .loop .inv) (omega arith) (c .excess-of .ensures .0)
 
--- src/money.rt:44:1
 returns : tie.Need-returns Inv-loop μ-loop
 returns c = filled-all (c .before .loop .inv) (omega arith)
 

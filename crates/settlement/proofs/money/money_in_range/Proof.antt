@@ -1,31 +1,20 @@
-use borrow.Author.Needs.{needs}
 use mathlib.Core.Path.{_≡_}
 use Prim.Native.Nat.{ℕ}
+use native.Mathlib.Omega.{arith}
 use lib.IntN.{ℤ, pos}
+use borrow.Author.Needs.{needs}
 use Rattle.settlement.specs.Lists.{listBelow, element}
 use Rattle.settlement.specs.Signed.{above}
 use Rattle.settlement.specs.Quantities.{cents}
 use Rattle.settlement.specs.Shares.{wattsOf}
 use Rattle.settlement.specs.Money.{charge, ceiling, charges, ceilings, credit, left, loadShare, settled}
+use Rattle.settlement.proofs.Lists.{sum-filled}
 use Rattle.settlement.proofs.Capacities.{AreaRange, area-range}
 use Rattle.settlement.proofs.Bounds.{charges-bound, ceilings-bound, credits-fit, load-shares-fit}
-use Rattle.settlement.proofs.Dues.{money, sum-filled, priced-filled, amounts-filled, total-filled, credits-filled, left-filled, loads-filled}
-use Rattle.settlement.proofs.Dues.{unplaced-is, dues-filled, paid-fits, money-same}
-use native.Mathlib.Omega.{arith}
+use Rattle.settlement.proofs.Dues.{money, priced-filled, amounts-filled, total-filled, credits-filled, left-filled, loads-filled, unplaced-is}
+use Rattle.settlement.proofs.Dues.{dues-filled, paid-fits, money-same}
 use Rattle.settlement.proofs.money.money_in_range.Statement.{statement}
 use Rattle.settlement.proofs.money.money_in_range.Tie as tie
-use Rattle.settlement.proofs.money.money_in_range.Reads as reads
-use Rattle.settlement.proofs.money.money_in_range.Lts as lts
-use Rattle.settlement.proofs.money.amounts.Reads as amounts-reads
-use Rattle.settlement.proofs.money.credits.Reads as credits-reads
-use Rattle.settlement.proofs.money.dues.Reads as dues-reads
-use Rattle.settlement.proofs.money.excesses.Reads as excesses-reads
-use Rattle.settlement.proofs.money.is_unplaced.Reads as is-unplaced-reads
-use Rattle.settlement.proofs.money.left_over.Reads as left-over-reads
-use Rattle.settlement.proofs.money.priced_each.Reads as priced-each-reads
-use Rattle.settlement.proofs.money.shortfalls.Reads as shortfalls-reads
-use Rattle.settlement.proofs.money.split_cents.Reads as split-cents-reads
-use Rattle.settlement.proofs.money.total.Reads as total-reads
 
 -- what holds of the area that the function was called for
 abbrev Of : tie.Start → ((ℕ → ℤ) → ℕ → ℕ → (ℕ → ℕ) → Type 0) → Type 0
@@ -66,63 +55,49 @@ left-is c = left-filled _ _ _ (charged-is (c .before .before .before)) (ceiling-
 load-shares-are : (c : tie.After-split-cents) → Of (c .before .before .before .before .before .before .before .before .before .before .before) (λ N price days o. c .split-cents .result ≡ money (loadShare N price days o))
 load-shares-are c = loads-filled _ _ _ _ (left-is (c .before)) (c .split-cents .ensures)
 
--- src/money.rt:204:31
 shortfalls-requires : tie.Need-shortfalls-requires
 shortfalls-requires c κs = search needs
 
--- src/money.rt:204:9
 priced-each-requires : tie.Need-priced-each-requires
 priced-each-requires c κs = let r = in-range (c .before) in (rw (sum-filled _ (c .shortfalls .ensures)) (r .shortfalls-to), r .price-to, r .days-to)
 
--- src/money.rt:205:32
 excesses-requires : tie.Need-excesses-requires
 excesses-requires c κs = search needs
 
--- src/money.rt:205:9
 priced-each-requires-2 : tie.Need-priced-each-requires-2
 priced-each-requires-2 c κs = let r = in-range (c .before .before .before) in (rw (sum-filled _ (c .excesses .ensures)) (r .excesses-to), r .price-to, r .days-to)
 
--- src/money.rt:206:9
 amounts-requires : tie.Need-amounts-requires
 amounts-requires c κs = search needs
 
--- src/money.rt:207:25
 amounts-requires-2 : tie.Need-amounts-requires-2
 amounts-requires-2 c κs = search needs
 
--- src/money.rt:207:9
 total-requires : tie.Need-total-requires
 unfolding charges
 total-requires c κs = rw (sum-filled _ (by-charge-is c)) (omega (arith, charges-bound _ _ _ _ (c .before .before .before .before .before .before .pre)))
 
--- src/money.rt:208:9
 total-requires-2 : tie.Need-total-requires-2
 unfolding ceilings
 total-requires-2 c κs = rw (sum-filled _ (by-ceiling-is (c .before .before))) (omega (arith, ceilings-bound _ _ _ _ (c .before .before .before .before .before .before .before .pre)))
 
--- src/money.rt:209:9
 credits-requires : tie.Need-credits-requires
 unfolding above ceilings
 credits-requires c κs = rw (charged-is (c .before), sum-filled _ (by-ceiling-is (c .before .before .before))) (credits-fit _ _ _ _ (c .before .before .before .before .before .before .before .before .pre))
 
--- src/money.rt:210:9
 left-over-requires : tie.Need-left-over-requires
 left-over-requires c κs = search needs
 
--- src/money.rt:211:9
 split-cents-requires : tie.Need-split-cents-requires
 unfolding above
 split-cents-requires c κs = rw (left-is c) (load-shares-fit _ _ _ _ (c .before .before .before .before .before .before .before .before .before .before .pre))
 
--- src/money.rt:213:19
 is-unplaced-requires : tie.Need-is-unplaced-requires
 is-unplaced-requires c κs = search needs
 
--- src/money.rt:214:15
 dues-requires : tie.Need-dues-requires
 dues-requires c κs = paid-fits _ _ _ _ (c .before .before .before .before .before .before .before .before .before .before .before .before .pre) (credits-are (c .before .before .before)) (load-shares-are (c .before))
 
--- src/money.rt:200:1
 returns : tie.Need-returns
 unfolding settled
 returns c =

@@ -1,20 +1,15 @@
-use mathlib.Core.Path.{_≡_, refl, ap, _∙_}
+use mathlib.Core.Path.{refl, ap, _∙_}
 use Prim.Native.Nat.{ℕ, _-_, _<_}
+use native.Mathlib.Omega.{arith}
 use lib.IntN.{pos}
+use borrow.Author.Needs.{needs}
 use Rattle.settlement.specs.Lists.{element}
 use Rattle.settlement.specs.Signed.{above}
 use Rattle.settlement.specs.Quantities.{cents}
 use Rattle.settlement.proofs.Lists.{list-same, Filled, filled-none, filled-more, filled-all}
 use Rattle.settlement.proofs.Deals.{PartyShare, party-share}
-use borrow.Author.Needs.{needs}
-use native.Mathlib.Omega.{arith}
 use Rattle.settlement.proofs.money.split_cents.Statement.{statement}
 use Rattle.settlement.proofs.money.split_cents.Tie as tie
-use Rattle.settlement.proofs.money.split_cents.Reads as reads
-use Rattle.settlement.proofs.money.split_cents.Lts as lts
-use Rattle.settlement.proofs.amounts.amount_of.Reads as amount-of-reads
-use Rattle.settlement.proofs.amounts.cents.Reads as cents-reads
-use Rattle.settlement.proofs.split.split_by_party.Reads as split-by-party-reads
 
 abbrev Inv-loop : tie.InvT-loop
 Inv-loop amounts shares₀ p₀ shares p = Filled 16 (λ k. cents (pos (element amounts k))) shares p
@@ -28,51 +23,39 @@ Share c k = let start = c .before .before in PartyShare (above (start .args .mon
 share : (c : tie.After-split-by-party Inv-loop μ-loop) (k : ℕ) → k < 16 → Share c k
 share c k h = party-share _ (c .before .amount-of .ensures .0) (search needs) (c .before .before .pre) (c .split-by-party .ensures) k h
 
--- src/money.rt:104:34
 amount-of-requires : tie.Need-amount-of-requires Inv-loop μ-loop
 amount-of-requires c κs = search needs
 
--- src/money.rt:104:19
 split-by-party-requires : tie.Need-split-by-party-requires Inv-loop μ-loop
 split-by-party-requires c κs = search needs
 
--- src/money.rt:107:5
 loop-holds : tie.Need-loop-holds Inv-loop μ-loop
 loop-holds c = filled-none refl
 
--- src/money.rt:108:27
 mul-cents : tie.Need-mul-cents Inv-loop μ-loop
 mul-cents c = search needs
 
--- src/money.rt:108:27
 array-read-cents : tie.Need-array-read-cents Inv-loop μ-loop
 array-read-cents c = search needs
 
--- src/money.rt:108:21
 cents-requires : tie.Need-cents-requires Inv-loop μ-loop
 cents-requires c κs = share (c .before .before) (c .before .loop .p) (omega arith) .fits
 
--- src/money.rt:108:9
 mul-shares : tie.Need-mul-shares Inv-loop μ-loop
 mul-shares c = search needs
 
--- src/money.rt:108:9
 array-set-from-shares : tie.Need-array-set-from-shares Inv-loop μ-loop
 array-set-from-shares c = search needs
 
--- src/money.rt:109:9
 add-p : tie.Need-add-p Inv-loop μ-loop
 add-p c = search needs
 
--- src/money.rt:107:5
 loop-less : tie.Need-loop-less Inv-loop μ-loop
 loop-less c = search needs
 
--- src/money.rt:107:5
 loop-again : tie.Need-loop-again Inv-loop μ-loop
 loop-again c = filled-more (c .before .before .loop .inv) (omega arith) (c .cents .ensures)
 
--- src/money.rt:100:1
 returns : tie.Need-returns Inv-loop μ-loop
 returns c = filled-all (c .before .loop .inv) (omega arith) ∙ list-same 16 _ _ (λ k h. ap (λ (n : ℕ). cents (pos n)) (share (c .before .before) k h .is))
 

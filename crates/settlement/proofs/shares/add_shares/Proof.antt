@@ -1,15 +1,12 @@
 use mathlib.Core.Path.{refl}
 use Prim.Native.Nat.{_-_}
+use native.Mathlib.Omega.{arith}
+use borrow.Author.Needs.{needs}
 use Rattle.settlement.specs.Quantities.{unforcedWatts}
 use Rattle.settlement.specs.Shares.{wattsOf, netWith, netsAnswer}
 use Rattle.settlement.proofs.Lists.{Filled, filled-none, filled-more, filled-all}
-use borrow.Author.Needs.{needs}
-use native.Mathlib.Omega.{arith}
 use Rattle.settlement.proofs.shares.add_shares.Statement.{statement}
 use Rattle.settlement.proofs.shares.add_shares.Tie as tie
-use Rattle.settlement.proofs.shares.add_shares.Reads as reads
-use Rattle.settlement.proofs.shares.add_shares.Lts as lts
-use Rattle.settlement.proofs.shares.net_with.Reads as net-with-reads
 
 abbrev Inv-loop : tie.InvT-loop
 Inv-loop nets shares sums₀ p₀ sums p = Filled 16 (λ k. unforcedWatts (netWith (wattsOf nets k) (wattsOf shares k))) sums p
@@ -17,51 +14,39 @@ Inv-loop nets shares sums₀ p₀ sums p = Filled 16 (λ k. unforcedWatts (netWi
 abbrev μ-loop : tie.MeasureT-loop
 μ-loop nets shares sums₀ p₀ sums p = 16 - p
 
--- src/shares.rt:84:5
 loop-holds : tie.Need-loop-holds Inv-loop μ-loop
 loop-holds c = filled-none refl
 
--- src/shares.rt:85:19
 mul-net : tie.Need-mul-net Inv-loop μ-loop
 mul-net c = search needs
 
--- src/shares.rt:85:19
 array-copy-out-net : tie.Need-array-copy-out-net Inv-loop μ-loop
 array-copy-out-net c = search needs
 
--- src/shares.rt:86:21
 mul-share : tie.Need-mul-share Inv-loop μ-loop
 mul-share c = search needs
 
--- src/shares.rt:86:21
 array-copy-out-share : tie.Need-array-copy-out-share Inv-loop μ-loop
 array-copy-out-share c = search needs
 
--- src/shares.rt:87:19
 net-with-requires : tie.Need-net-with-requires Inv-loop μ-loop
 net-with-requires c κs = search needs
 
--- src/shares.rt:87:9
 mul-sums : tie.Need-mul-sums Inv-loop μ-loop
 mul-sums c = search needs
 
--- src/shares.rt:87:9
 array-set-from-sums : tie.Need-array-set-from-sums Inv-loop μ-loop
 array-set-from-sums c = search needs
 
--- src/shares.rt:88:9
 add-p : tie.Need-add-p Inv-loop μ-loop
 add-p c = search needs
 
--- src/shares.rt:84:5
 loop-less : tie.Need-loop-less Inv-loop μ-loop
 loop-less c = search needs
 
--- src/shares.rt:84:5
 loop-again : tie.Need-loop-again Inv-loop μ-loop
 loop-again c = filled-more (c .before .before .before .before .loop .inv) (omega arith) (c .net-with .ensures)
 
--- src/shares.rt:79:1
 returns : tie.Need-returns Inv-loop μ-loop
 unfolding netsAnswer
 returns c = filled-all (c .before .loop .inv) (omega arith)

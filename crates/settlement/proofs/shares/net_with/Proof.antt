@@ -1,72 +1,51 @@
-use borrow.Author.Needs.{needs}
 use mathlib.Core.Path.{ap, _∙_}
-use Rattle.settlement.specs.Quantities.{unforcedWatts}
-use Rattle.settlement.proofs.Nets.{net-too-large, share-too-large, net-more}
 use native.Mathlib.Omega.{arith}
+use borrow.Author.Needs.{needs}
+use Rattle.settlement.specs.Quantities.{unforcedWatts}
 use Rattle.settlement.proofs.Sizes.{size-parts}
+use Rattle.settlement.proofs.Nets.{net-too-large, share-too-large, net-more}
 use Rattle.settlement.proofs.shares.net_with.Statement.{statement}
 use Rattle.settlement.proofs.shares.net_with.Tie as tie
-use Rattle.settlement.proofs.shares.net_with.Reads as reads
-use Rattle.settlement.proofs.shares.net_with.Lts as lts
-use Rattle.settlement.proofs.amounts.excess_of.Reads as excess-of-reads
-use Rattle.settlement.proofs.amounts.shortfall_of.Reads as shortfall-of-reads
-use Rattle.settlement.proofs.amounts.unforced_difference.Reads as unforced-difference-reads
-use Rattle.settlement.proofs.amounts.unforced_watts.Reads as unforced-watts-reads
-use Rattle.settlement.proofs.shares.size_of.Reads as size-of-reads
 
--- src/shares.rt:66:19
 size-of-requires : tie.Need-size-of-requires
 size-of-requires c κs = search needs
 
--- src/shares.rt:67:9
 unforced-watts-requires : tie.Need-unforced-watts-requires
 unforced-watts-requires c κs = search needs
 
--- src/shares.rt:67:9
 returns : tie.Need-returns
 returns c = c .unforced-watts .ensures ∙ ap unforcedWatts (net-too-large _ _ (omega arith))
 
--- src/shares.rt:69:19
 size-of-requires-2 : tie.Need-size-of-requires-2
 size-of-requires-2 c κs = search needs
 
--- src/shares.rt:70:9
 unforced-watts-requires-2 : tie.Need-unforced-watts-requires-2
 unforced-watts-requires-2 c κs = search needs
 
--- src/shares.rt:70:9
 returns-2 : tie.Need-returns-2
 returns-2 c = c .unforced-watts2 .ensures ∙ ap unforcedWatts (share-too-large _ _ (omega arith) (omega arith))
 
--- src/shares.rt:73:9
 shortfall-of-requires : tie.Need-shortfall-of-requires
 shortfall-of-requires c κs = search needs
 
--- src/shares.rt:73:29
 shortfall-of-requires-2 : tie.Need-shortfall-of-requires-2
 shortfall-of-requires-2 c κs = search needs
 
--- src/shares.rt:73:9
 add-unforced-difference : tie.Need-add-unforced-difference
 add-unforced-difference c = search needs
 
--- src/shares.rt:74:9
 excess-of-requires : tie.Need-excess-of-requires
 excess-of-requires c κs = search needs
 
--- src/shares.rt:74:26
 excess-of-requires-2 : tie.Need-excess-of-requires-2
 excess-of-requires-2 c κs = search needs
 
--- src/shares.rt:74:9
 add-unforced-difference-2 : tie.Need-add-unforced-difference-2
 add-unforced-difference-2 c = omega (arith, size-parts (c .before .before .before .before .before .before .before .before .args .net .0), size-parts (c .before .before .before .before .before .before .before .before .args .share .0))
 
--- src/shares.rt:72:5
 unforced-difference-requires : tie.Need-unforced-difference-requires
 unforced-difference-requires c κs = (omega (arith, size-parts (c .before .before .before .before .before .before .before .before .args .net .0), size-parts (c .before .before .before .before .before .before .before .before .args .share .0)), omega (arith, size-parts (c .before .before .before .before .before .before .before .before .args .net .0), size-parts (c .before .before .before .before .before .before .before .before .args .share .0)))
 
--- src/shares.rt:63:1
 returns-3 : tie.Need-returns-3
 returns-3 c = c .unforced-difference .ensures ∙ ap unforcedWatts (rw (c .before .before .before .before .shortfall-of .ensures .0, c .before .before .before .shortfall-of2 .ensures .0, c .before .before .excess-of .ensures .0, c .before .excess-of2 .ensures .0) (net-more _ _ (omega arith) (omega arith)))
 

@@ -1,20 +1,15 @@
+use mathlib.Core.Path.{refl, ap, _∙_}
+use Prim.Native.Nat.{ℕ, _-_, _<_}
+use native.Mathlib.Omega.{arith}
+use lib.IntN.{natAbs}
+use borrow.Author.Needs.{needs}
 use Rattle.settlement.specs.Lists.{element}
 use Rattle.settlement.specs.Quantities.{unforcedWatts}
-use Rattle.settlement.specs.Split.{split, withSign, splitSigned}
+use Rattle.settlement.specs.Split.{withSign, splitSigned}
 use Rattle.settlement.proofs.Lists.{list-same, Filled, filled-none, filled-more, filled-all}
-use borrow.Author.Needs.{needs}
-use native.Mathlib.Omega.{arith}
-use mathlib.Core.Path.{_≡_, refl, ap, _∙_}
-use Prim.Native.Nat.{ℕ, _-_, _^_, _<_}
-use lib.IntN.{natAbs}
 use Rattle.settlement.proofs.Deals.{PartyShare, party-share}
 use Rattle.settlement.proofs.shares.signed_split.Statement.{statement}
 use Rattle.settlement.proofs.shares.signed_split.Tie as tie
-use Rattle.settlement.proofs.shares.signed_split.Reads as reads
-use Rattle.settlement.proofs.shares.signed_split.Lts as lts
-use Rattle.settlement.proofs.shares.size_of.Reads as size-of-reads
-use Rattle.settlement.proofs.shares.with_sign.Reads as with-sign-reads
-use Rattle.settlement.proofs.split.split_by_party.Reads as split-by-party-reads
 
 abbrev Inv-loop : tie.InvT-loop
 Inv-loop s sizes shares₀ p₀ shares p = Filled 16 (λ k. unforcedWatts (withSign (s .0) (element sizes k))) shares p
@@ -28,51 +23,39 @@ Size c k = let start = c .before .before in PartyShare (natAbs (start .args .s .
 size : (c : tie.After-split-by-party Inv-loop μ-loop) (k : ℕ) → k < 16 → Size c k
 size c k h = party-share _ (c .before .size-of .ensures .0) (search needs) (c .before .before .pre) (c .split-by-party .ensures) k h
 
--- src/shares.rt:43:32
 size-of-requires : tie.Need-size-of-requires Inv-loop μ-loop
 size-of-requires c κs = search needs
 
--- src/shares.rt:43:17
 split-by-party-requires : tie.Need-split-by-party-requires Inv-loop μ-loop
 split-by-party-requires c κs = search needs
 
--- src/shares.rt:46:5
 loop-holds : tie.Need-loop-holds Inv-loop μ-loop
 loop-holds c = filled-none refl
 
--- src/shares.rt:47:34
 mul-with-sign : tie.Need-mul-with-sign Inv-loop μ-loop
 mul-with-sign c = search needs
 
--- src/shares.rt:47:34
 array-read-with-sign : tie.Need-array-read-with-sign Inv-loop μ-loop
 array-read-with-sign c = omega arith
 
--- src/shares.rt:47:21
 with-sign-requires : tie.Need-with-sign-requires Inv-loop μ-loop
 with-sign-requires c κs = size (c .before .before) (c .before .loop .p) (omega arith) .fits
 
--- src/shares.rt:47:9
 mul-shares : tie.Need-mul-shares Inv-loop μ-loop
 mul-shares c = search needs
 
--- src/shares.rt:47:9
 array-set-from-shares : tie.Need-array-set-from-shares Inv-loop μ-loop
 array-set-from-shares c = omega arith
 
--- src/shares.rt:48:9
 add-p : tie.Need-add-p Inv-loop μ-loop
 add-p c = omega arith
 
--- src/shares.rt:46:5
 loop-less : tie.Need-loop-less Inv-loop μ-loop
 loop-less c = omega arith
 
--- src/shares.rt:46:5
 loop-again : tie.Need-loop-again Inv-loop μ-loop
 loop-again c = filled-more (c .before .before .loop .inv) (omega arith) (c .with-sign .ensures)
 
--- src/shares.rt:39:1
 returns : tie.Need-returns Inv-loop μ-loop
 unfolding splitSigned
 returns c = filled-all (c .before .loop .inv) (omega arith) ∙ list-same 16 _ _ (λ k h. ap (λ (n : ℕ). unforcedWatts (withSign (c .before .before .before .before .args .s .0) n)) (size (c .before .before) k h .is))

@@ -1,7 +1,7 @@
-use borrow.Author.Needs.{needs}
 use mathlib.Core.Path.{_≡_, ap, _∙_}
 use Prim.Native.Nat.{_-_, _^_, min}
 use lib.IntN.{ℤ}
+use borrow.Author.Needs.{needs}
 use Rattle.calendar.specs.Sum.{sumBelow}
 use Rattle.settlement.specs.declared.UnforcedWatts.{UnforcedWatts}
 use Rattle.settlement.specs.Lists.{listBelow, element}
@@ -9,15 +9,10 @@ use Rattle.settlement.specs.Quantities.{unforcedWatts}
 use Rattle.settlement.specs.Capacity.{wattDaysOf}
 use Rattle.settlement.specs.Split.{splitSigned}
 use Rattle.settlement.specs.Shares.{sharesAnswer}
-use Rattle.settlement.proofs.Deals.{capped-sixteen}
+use Rattle.settlement.proofs.CappedSums.{capped-sixteen}
 use Rattle.settlement.proofs.Nets.{shortfall-splits, capped-shortfall}
 use Rattle.settlement.proofs.shares.unit_shares.Statement.{statement}
 use Rattle.settlement.proofs.shares.unit_shares.Tie as tie
-use Rattle.settlement.proofs.shares.unit_shares.Reads as reads
-use Rattle.settlement.proofs.shares.unit_shares.Lts as lts
-use Rattle.settlement.proofs.capacity.limited_shortfall.Reads as limited-shortfall-reads
-use Rattle.settlement.proofs.shares.signed_split.Reads as signed-split-reads
-use Rattle.settlement.proofs.split.capped_sum.Reads as capped-sum-reads
 
 abbrev Capped : tie.After-capped-sum → Type 0
 Capped c = c .capped-sum .result ≡ min (sumBelow 16 (element (c .before .before .args .t2))) (2 ^ 64 - 1)
@@ -25,23 +20,18 @@ Capped c = c .capped-sum .result ≡ min (sumBelow 16 (element (c .before .befor
 capped : (c : tie.After-capped-sum) → Capped c
 capped c = capped-sixteen (c .before .before .args .t2) _ (search needs) (c .capped-sum .ensures)
 
--- src/shares.rt:57:24
 slice-aggregate-capped-sum : tie.Need-slice-aggregate-capped-sum
 slice-aggregate-capped-sum c = search needs
 
--- src/shares.rt:57:9
 capped-sum-requires : tie.Need-capped-sum-requires
 capped-sum-requires c κs = search needs
 
--- src/shares.rt:58:18
 limited-shortfall-requires : tie.Need-limited-shortfall-requires
 limited-shortfall-requires c κs = search needs
 
--- src/shares.rt:58:5
 signed-split-requires : tie.Need-signed-split-requires
 signed-split-requires c κs = rw (c .limited-shortfall .ensures) (shortfall-splits _ _ _ (capped (c .before)))
 
--- src/shares.rt:54:1
 returns : tie.Need-returns
 unfolding sharesAnswer wattDaysOf
 returns c =

@@ -1,18 +1,13 @@
 use Rattle.settlement.proofs.Signs.{positive-cast, positive-is, not-positive, above-bounded}
 use Rattle.settlement.proofs.signed.above.Statement.{statement}
 use Rattle.settlement.proofs.signed.above.Tie as tie
-use Rattle.settlement.proofs.signed.above.Reads as reads
-use Rattle.settlement.proofs.signed.above.Lts as lts
 
--- src/signed.rt:10:16
 cast-result : tie.Need-cast-result
 cast-result c = positive-cast (c .before .fits .x) (c .if1 .taken)
 
--- src/signed.rt:7:1
 returns : tie.Need-returns
 returns c = above-bounded (c .before .fits .x) (positive-is (c .before .fits .x) (c .if1 .taken))
 
--- src/signed.rt:7:1
 returns-2 : tie.Need-returns-2
 returns-2 c = above-bounded (c .before .fits .x) (not-positive (c .before .fits .x) (c .if1 .left))
 

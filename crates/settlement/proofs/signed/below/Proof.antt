@@ -1,30 +1,22 @@
 use Rattle.settlement.proofs.Signs.{negative, not-negative, below-bounded}
 use Rattle.settlement.proofs.signed.below.Statement.{statement}
 use Rattle.settlement.proofs.signed.below.Tie as tie
-use Rattle.settlement.proofs.signed.below.Reads as reads
-use Rattle.settlement.proofs.signed.below.Lts as lts
 
--- src/signed.rt:16:19
 add-result : tie.Need-add-result
 add-result c = negative (c .before .fits .x) (c .if1 .taken) .up
 
--- src/signed.rt:16:17
 sub-result : tie.Need-sub-result
 sub-result c = negative (c .before .fits .x) (c .if1 .taken) .around
 
--- src/signed.rt:16:16
 cast-result : tie.Need-cast-result
 cast-result c = negative (c .before .fits .x) (c .if1 .taken) .cast
 
--- src/signed.rt:16:16
 add-result-2 : tie.Need-add-result-2
 add-result-2 c = negative (c .before .fits .x) (c .if1 .taken) .size
 
--- src/signed.rt:13:1
 returns : tie.Need-returns
 returns c = below-bounded (c .before .fits .x) (negative (c .before .fits .x) (c .if1 .taken) .is)
 
--- src/signed.rt:13:1
 returns-2 : tie.Need-returns-2
 returns-2 c = below-bounded (c .before .fits .x) (not-negative (c .before .fits .x) (c .if1 .left))
 

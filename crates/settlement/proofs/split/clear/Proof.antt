@@ -1,13 +1,11 @@
 use mathlib.Core.Path.{refl}
 use Prim.Native.Nat.{_-_}
-use lib.ListN.{length}
-use Rattle.settlement.proofs.Lists.{Filled, filled-none, filled-more, filled-all}
-use borrow.Author.Needs.{needs}
 use native.Mathlib.Omega.{arith}
+use lib.ListN.{length}
+use borrow.Author.Needs.{needs}
+use Rattle.settlement.proofs.Lists.{Filled, filled-none, filled-more, filled-all}
 use Rattle.settlement.proofs.split.clear.Statement.{statement}
 use Rattle.settlement.proofs.split.clear.Tie as tie
-use Rattle.settlement.proofs.split.clear.Reads as reads
-use Rattle.settlement.proofs.split.clear.Lts as lts
 
 abbrev Inv-loop : tie.InvT-loop
 Inv-loop shares₀ k₀ shares k = Filled (length shares₀) (λ j. 0) shares k
@@ -15,35 +13,27 @@ Inv-loop shares₀ k₀ shares k = Filled (length shares₀) (λ j. 0) shares k
 abbrev μ-loop : tie.MeasureT-loop
 μ-loop shares₀ k₀ shares k = length shares₀ - k
 
--- src/split.rt:80:5
 loop-holds : tie.Need-loop-holds Inv-loop μ-loop
 loop-holds c = filled-none refl
 
--- src/split.rt:81:9
 mul-shares : tie.Need-mul-shares Inv-loop μ-loop
 mul-shares c = search needs
 
--- src/split.rt:81:9
 slice-write-shares : tie.Need-slice-write-shares Inv-loop μ-loop
 slice-write-shares c = search needs
 
--- src/split.rt:82:9
 add-k : tie.Need-add-k Inv-loop μ-loop
 add-k c = search needs
 
--- src/split.rt:80:5
 loop-less : tie.Need-loop-less Inv-loop μ-loop
 loop-less c = search needs
 
--- src/split.rt:80:5
 loop-again : tie.Need-loop-again Inv-loop μ-loop
 loop-again c = filled-more (c .before .loop .inv) (omega arith) refl
 
--- src/split.rt:76:1
 same-length : tie.Need-same-length Inv-loop μ-loop
 same-length c = c .before .loop .inv .long
 
--- src/split.rt:76:1
 returns : tie.Need-returns Inv-loop μ-loop
 returns c = filled-all (c .before .loop .inv) (omega arith)
 

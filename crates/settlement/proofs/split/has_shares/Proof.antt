@@ -1,25 +1,19 @@
-use borrow.Author.Needs.{needs}
 use native.Mathlib.Omega.{arith}
+use borrow.Author.Needs.{needs}
 use borrow.Author.Tests.{lt-ltb, le-ltb}
 use Rattle.settlement.proofs.Deals.{product-test}
 use Rattle.settlement.proofs.split.has_shares.Statement.{statement}
 use Rattle.settlement.proofs.split.has_shares.Tie as tie
-use Rattle.settlement.proofs.split.has_shares.Reads as reads
-use Rattle.settlement.proofs.split.has_shares.Lts as lts
 
--- src/split.rt:42:9
 returns : tie.Need-returns
 returns c = simp (le-ltb 0 (c .before .args .amount) (omega arith))
 
--- src/split.rt:45:9
 returns-2 : tie.Need-returns-2
 returns-2 c = simp (lt-ltb 0 (c .before .before .args .amount) (omega arith), le-ltb 0 (c .before .before .args .z) (omega arith))
 
--- src/split.rt:47:15
 div-result : tie.Need-div-result
 div-result c = search needs
 
--- src/split.rt:38:1
 returns-3 : tie.Need-returns-3
 returns-3 c = product-test {a = c .before .before .args .amount} {z = c .before .before .args .z} (omega arith) (omega arith)
 

@@ -1,16 +1,10 @@
-use borrow.Author.Needs.{needs}
 use mathlib.Core.Path.{_≡_, sym, _∙_}
 use Prim.Native.Nat.{_*_, _^_, _<_}
-use Rattle.settlement.proofs.Deals.{total, shares-found, answer-shares, answer-none}
-use native.Mathlib.Omega.{arith}
+use borrow.Author.Needs.{needs}
+use Rattle.settlement.proofs.CappedSums.{total}
+use Rattle.settlement.proofs.Deals.{shares-found, answer-shares, answer-none}
 use Rattle.settlement.proofs.split.split.Statement.{statement}
 use Rattle.settlement.proofs.split.split.Tie as tie
-use Rattle.settlement.proofs.split.split.Reads as reads
-use Rattle.settlement.proofs.split.split.Lts as lts
-use Rattle.settlement.proofs.split.capped_sum.Reads as capped-sum-reads
-use Rattle.settlement.proofs.split.clear.Reads as clear-reads
-use Rattle.settlement.proofs.split.deal.Reads as deal-reads
-use Rattle.settlement.proofs.split.has_shares.Reads as has-shares-reads
 
 abbrev Found : tie.Then1 → Type 0
 Found c =
@@ -23,35 +17,27 @@ Found c =
 found : (c : tie.Then1) → Found c
 found c = shares-found _ _ (c .before .before .capped-sum .ensures) (sym (c .before .has-shares .ensures) ∙ c .if1 .taken)
 
--- src/split.rt:90:9
 capped-sum-requires : tie.Need-capped-sum-requires
 capped-sum-requires c κs = search needs
 
--- src/split.rt:91:8
 has-shares-requires : tie.Need-has-shares-requires
 has-shares-requires c κs = search needs
 
--- src/split.rt:92:9
 deal-requires : tie.Need-deal-requires
 deal-requires c κs = let f = found (c .before) in (f .0, f .1, f .2)
 
--- src/split.rt:93:9
 same-length : tie.Need-same-length
 same-length c = search needs
 
--- src/split.rt:93:9
 returns : tie.Need-returns
 returns c = c .before .before .deal .ensures ∙ sym (answer-shares _ _ _ (found (c .before .before .before .before) .3))
 
--- src/split.rt:95:5
 clear-requires : tie.Need-clear-requires
 clear-requires c κs = search needs
 
--- src/split.rt:87:1
 same-length-2 : tie.Need-same-length-2
 same-length-2 c = search needs
 
--- src/split.rt:87:1
 returns-2 : tie.Need-returns-2
 returns-2 c = c .before .before .clear .ensures ∙ answer-none _ (c .before .before .before .before .before .before .before .before .before .args .weights .now) _ (c .before .before .before .before .before .before .capped-sum .ensures) (sym (c .before .before .before .before .before .has-shares .ensures) ∙ c .before .before .before .before .if1 .left)
 

@@ -1,7 +1,7 @@
 -- The definitions give figures a to i.
 use mathlib.Core.List.{List, [], _∷_, _++_, map}
 use Rattle.calendar.specs.Sum.{sumBelow}
-use Rattle.calendar.specs.Figures.{EachGiven, peakGiven, peakRows}
+use Rattle.calendar.specs.Figures.{EachGiven, peakRows}
 use Rattle.calendar.proofs.Figures.{peak-figures}
 use Rattle.settlement.specs.Lists.{listBelow}
 use Rattle.settlement.specs.Signed.{above, below}
