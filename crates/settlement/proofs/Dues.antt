@@ -60,11 +60,14 @@ module _ (N : ℕ → ℤ) (price days : ℕ) where
   unfolding above credit
   credits-filled {ms} {cs} {by} r m filled weights e = e ∙ rw (r, m, filled, weights) (go (ltb (charges N price days) (ceilings N price days)) refl)
     where
-      by-ceiling : (p : ℕ) → p < 16 → split (charges N price days) 16 (element (listBelow 16 (ceiling N price days))) p ≡ split (charges N price days) 16 (ceiling N price days) p
+      by-ceiling : (p : ℕ) → p < 16
+          → split (charges N price days) 16 (element (listBelow 16 (ceiling N price days))) p
+          ≡ split (charges N price days) 16 (ceiling N price days) p
       by-ceiling = split-same (charges N price days) 16 _ (ceiling N price days) (λ k h. element-below 16 (ceiling N price days) k 0 h)
 
       go : (t : Bool) → ltb (charges N price days) (ceilings N price days) ≡ t
-          → cond t (money (split (charges N price days) 16 (element (listBelow 16 (ceiling N price days))))) (money (ceiling N price days)) ≡ money (credit N price days)
+          → cond t (money (split (charges N price days) 16 (element (listBelow 16 (ceiling N price days))))) (money (ceiling N price days))
+          ≡ money (credit N price days)
       go true q = list-same 16 _ _ (λ p h. ap (λ (n : ℕ). cents (pos n)) (by-ceiling p h ∙ chosen _ q))
       go false q = list-same 16 _ _ (λ p h. ap (λ (n : ℕ). cents (pos n)) (refused _ q))
 

@@ -65,7 +65,8 @@ module _ (u : UnitFacts) (days t : ℕ) {v : ℕ} (isv : v ≡ min t (2 ^ 64 - 1
   capped-shortfall = go (unitInRange u && yearInRange t days) refl
     where
       go : (b : Bool) → (unitInRange u && yearInRange t days) ≡ b
-          → cond (unitInRange u && yearInRange v days) (limitedShortfall u v days) (pos 0) ≡ cond (unitInRange u && yearInRange t days) (limitedShortfall u t days) (pos 0)
+          → cond (unitInRange u && yearInRange v days) (limitedShortfall u v days) (pos 0)
+          ≡ cond (unitInRange u && yearInRange t days) (limitedShortfall u t days) (pos 0)
       go true q =
           let small : YearRange t days = ranges u t days q .1 in
           let same : v ≡ t = omega arith in

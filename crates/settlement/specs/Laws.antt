@@ -38,22 +38,27 @@ pub record MoneyLaws : Type 0 where
   pub credit-at-most : (N : ℕ → ℤ) (price days p : ℕ) → p < 16 → credit N price days p ≤ ceiling N price days p
   pub credits-add-up : (N : ℕ → ℤ) (price days : ℕ) → sumBelow 16 (credit N price days) ≡ min (charges N price days) (ceilings N price days)
   -- where refusal 11 does not fit, credits and load shares add up to R, so that the dues add up to 0
-  pub paid-out : (N : ℕ → ℤ) (price days : ℕ) (o : ℕ → ℕ) → isUnplaced N price days o ≡ false → sumBelow 16 (credit N price days) + sumBelow 16 (loadShare N price days o) ≡ charges N price days
+  pub paid-out : (N : ℕ → ℤ) (price days : ℕ) (o : ℕ → ℕ) → isUnplaced N price days o ≡ false
+      → sumBelow 16 (credit N price days) + sumBelow 16 (loadShare N price days o) ≡ charges N price days
   pub dues-balance : (N : ℕ → ℤ) (price days : ℕ) (o : ℕ → ℕ) → isUnplaced N price days o ≡ false → sumBelowℤ 16 (due N price days o) ≡ pos 0
 
 -- why 64 bits are enough: in the ranges of 01 no value that the functions work with is past these bounds
 pub record Bounds : Type 0 where
   -- V of a unit with n commitments, and V × 100,000
-  pub watt-days-bound : (n : ℕ) (watts first last : ℕ → ℕ) → n ≤ 64 → ((k : ℕ) → (watts k ≤ 5000000) × (last k ≤ 365)) → sumBelow n (λ k. wattDays (watts k) (first k) (last k)) ≤ 117120000000
+  pub watt-days-bound : (n : ℕ) (watts first last : ℕ → ℕ) → n ≤ 64 → ((k : ℕ) → (watts k ≤ 5000000) × (last k ≤ 365))
+      → sumBelow n (λ k. wattDays (watts k) (first k) (last k)) ≤ 117120000000
   pub committed-bound : (v : ℕ) → v ≤ 117120000000 → v * 100000 ≤ 11712000000000000
   -- T × (SH × I − D)
-  pub rated-bound : (u : UnitFacts) (v days : ℕ) → unitInRange u ≡ true → committed (u .installed .0) (u .e) v days * (u .sh * u .installed .0 - u .d) ≤ 219600000000000000
+  pub rated-bound : (u : UnitFacts) (v days : ℕ) → unitInRange u ≡ true
+      → committed (u .installed .0) (u .e) v days * (u .sh * u .installed .0 - u .d) ≤ 219600000000000000
   -- S in size, and |S| × V in the split
   pub shortfall-bound : (u : UnitFacts) (v days : ℕ) → unitInRange u ≡ true → natAbs (limitedShortfall u v days) ≤ 5000000
   pub split-bound : (u : UnitFacts) (v days : ℕ) → unitInRange u ≡ true → v ≤ 117120000000 → natAbs (limitedShortfall u v days) * v ≤ 585600000000000000
   -- the nets of an area's units: of all parties together, so of each
-  pub shortfalls-bound : (n : ℕ) (S : ℕ → ℤ) (w : ℕ → ℕ → ℕ) → n ≤ 32 → ((u : ℕ) → natAbs (S u) ≤ 5000000) → sumBelow 16 (λ p. above (net n (λ u. splitSigned (S u) 16 (w u)) p)) ≤ 160000000
-  pub excesses-bound : (n : ℕ) (S : ℕ → ℤ) (w : ℕ → ℕ → ℕ) → n ≤ 32 → ((u : ℕ) → natAbs (S u) ≤ 5000000) → sumBelow 16 (λ p. below (net n (λ u. splitSigned (S u) 16 (w u)) p)) ≤ 160000000
+  pub shortfalls-bound : (n : ℕ) (S : ℕ → ℤ) (w : ℕ → ℕ → ℕ) → n ≤ 32 → ((u : ℕ) → natAbs (S u) ≤ 5000000)
+      → sumBelow 16 (λ p. above (net n (λ u. splitSigned (S u) 16 (w u)) p)) ≤ 160000000
+  pub excesses-bound : (n : ℕ) (S : ℕ → ℤ) (w : ℕ → ℕ → ℕ) → n ≤ 32 → ((u : ℕ) → natAbs (S u) ≤ 5000000)
+      → sumBelow 16 (λ p. below (net n (λ u. splitSigned (S u) 16 (w u)) p)) ≤ 160000000
   -- net × price × days; R and the sum of M; their product; what is left × obligations; dues
   pub priced-bound : (w price days : ℕ) → w ≤ 160000000 → price ≤ 50000 → days ≤ 366 → w * price * days ≤ 2928000000000000
   pub charges-bound : (N : ℕ → ℤ) (price days : ℕ) (o : ℕ → ℕ) → areaInRange N price days o ≡ true → charges N price days ≤ 2928000000

@@ -20,14 +20,18 @@ unit-shortfall-requires : tie.Need-unit-shortfall-requires
 unit-shortfall-requires c κs = (committed-small c, both-true (c .before .before .pre) .0)
 
 unit-limit-requires : tie.Need-unit-limit-requires
-unit-limit-requires c κs = (omega (arith, committed-small (c .before), ranges _ _ _ (c .before .before .before .pre) .0 .installed-to), both-true (c .before .before .before .pre) .0)
+unit-limit-requires c κs =
+    (omega (arith, committed-small (c .before), ranges _ _ _ (c .before .before .before .pre) .0 .installed-to),
+    both-true (c .before .before .before .pre) .0)
 
 limited-requires : tie.Need-limited-requires
 limited-requires c κs = search needs
 
 returns : tie.Need-returns
 unfolding limitedShortfall unitLimit above
-returns c = c .limited .ensures ∙ simp (c .before .before .unit-shortfall .ensures, c .before .unit-limit .ensures, c .before .before .before .committed .ensures)
+returns c =
+    c .limited .ensures
+    ∙ simp (c .before .before .unit-shortfall .ensures, c .before .unit-limit .ensures, c .before .before .before .committed .ensures)
 
 pub limited-in-range-spec : {M : Type 1} → statement M
 limited-in-range-spec =

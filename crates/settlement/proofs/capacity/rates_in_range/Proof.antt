@@ -19,7 +19,10 @@ returns-3 c = simp (le-leb _ _ (c .before .before .before .before .if1 .left), l
 
 returns-4 : tie.Need-returns-4
 unfolding ratesInRange
-returns-4 c = passed (le-leb _ _ (c .before .if3 .left)) ∙ passed (le-leb _ _ (c .before .before .before .if2 .left)) ∙ passed (le-leb _ _ (c .before .before .before .before .before .if1 .left))
+returns-4 c =
+    passed (le-leb _ _ (c .before .if3 .left))
+    ∙ passed (le-leb _ _ (c .before .before .before .if2 .left))
+    ∙ passed (le-leb _ _ (c .before .before .before .before .before .if1 .left))
 
 pub rates-in-range-spec : {M : Type 1} → statement M
 rates-in-range-spec = tie.close (tie.spec returns returns-2 returns-3 returns-4)

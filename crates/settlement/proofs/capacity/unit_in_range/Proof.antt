@@ -18,11 +18,16 @@ hours-in-range-requires c κs = within-to 1 5000000 _ (sym (c .before .before .b
 
 returns : tie.Need-returns
 unfolding unitInRange
-returns c = c .hours-in-range .ensures ∙ passed (flag (c .before .before .rates-in-range .ensures) (c .before .if2 .taken)) ∙ passed (flag (c .before .before .before .before .within .ensures) (c .before .before .before .if1 .taken))
+returns c =
+    c .hours-in-range .ensures
+    ∙ passed (flag (c .before .before .rates-in-range .ensures) (c .before .if2 .taken))
+    ∙ passed (flag (c .before .before .before .before .within .ensures) (c .before .before .before .if1 .taken))
 
 returns-2 : tie.Need-returns-2
 unfolding unitInRange
-returns-2 c = failed (hoursInRange _) (flag (c .before .rates-in-range .ensures) (c .if2 .left)) ∙ passed (flag (c .before .before .before .within .ensures) (c .before .before .if1 .taken))
+returns-2 c =
+    failed (hoursInRange _) (flag (c .before .rates-in-range .ensures) (c .if2 .left))
+    ∙ passed (flag (c .before .before .before .within .ensures) (c .before .before .if1 .taken))
 
 returns-3 : tie.Need-returns-3
 unfolding unitInRange

@@ -26,7 +26,10 @@ capped-sum-requires c κs = search needs
 returns-3 : tie.Need-returns-3
 unfolding areaInRange
 returns-3 c =
-    failed _ (capped-test _ 1600000000 (omega arith) (capped-sixteen (c .before .before .before .before .before .args .t4) (2 ^ 64 - 1) (search needs) (c .before .capped-sum .ensures)) ∙ lt-leb _ _ (c .if3 .taken))
+    failed _
+    (capped-test _ 1600000000 (omega arith)
+    (capped-sixteen (c .before .before .before .before .before .args .t4) (2 ^ 64 - 1) (search needs) (c .before .capped-sum .ensures))
+    ∙ lt-leb _ _ (c .if3 .taken))
     ∙ passed (le-leb _ _ (c .before .before .before .if2 .left)) ∙ passed (le-leb _ _ (c .before .before .before .before .if1 .left))
 
 watts-in-range-requires : tie.Need-watts-in-range-requires
@@ -36,7 +39,10 @@ returns-4 : tie.Need-returns-4
 unfolding areaInRange
 returns-4 c =
     c .watts-in-range .ensures
-    ∙ passed (capped-test _ 1600000000 (omega arith) (capped-sixteen (c .before .before .before .before .before .before .args .t4) (2 ^ 64 - 1) (search needs) (c .before .before .capped-sum .ensures)) ∙ le-leb _ _ (c .before .if3 .left))
+    ∙ passed
+    (capped-test _ 1600000000 (omega arith)
+    (capped-sixteen (c .before .before .before .before .before .before .args .t4) (2 ^ 64 - 1) (search needs) (c .before .before .capped-sum .ensures))
+    ∙ le-leb _ _ (c .before .if3 .left))
     ∙ passed (le-leb _ _ (c .before .before .before .before .if2 .left)) ∙ passed (le-leb _ _ (c .before .before .before .before .before .if1 .left))
 
 pub area-in-range-spec : {M : Type 1} → statement M

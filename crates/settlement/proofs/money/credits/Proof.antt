@@ -17,7 +17,10 @@ split-cents-requires : tie.Need-split-cents-requires
 split-cents-requires c κs = search needs
 
 returns : tie.Need-returns
-returns c = c .split-cents .ensures ∙ chosen _ (lt-ltb (above (c .before .before .before .before .args .charged .0)) (above (c .before .before .before .before .args .ceiling .0)) (omega arith))
+returns c =
+    c .split-cents .ensures
+    ∙ chosen _
+    (lt-ltb (above (c .before .before .before .before .args .charged .0)) (above (c .before .before .before .before .args .ceiling .0)) (omega arith))
 
 returns-2 : tie.Need-returns-2
 returns-2 c = refused _ (le-ltb (above (c .before .before .before .args .charged .0)) (above (c .before .before .before .args .ceiling .0)) (omega arith))

@@ -19,7 +19,9 @@ cents-difference-requires : tie.Need-cents-difference-requires
 cents-difference-requires c κs = search needs
 
 returns : tie.Need-returns
-returns c = c .cents-difference .ensures ∙ simp (c .before .before .before .amount-of .ensures .0, c .before .before .amount-of2 .ensures .0, c .before .amount-of3 .ensures .0)
+returns c =
+    c .cents-difference .ensures
+    ∙ simp (c .before .before .before .amount-of .ensures .0, c .before .before .amount-of2 .ensures .0, c .before .amount-of3 .ensures .0)
 
 pub due-spec : {M : Type 1} → statement M
 due-spec =

@@ -12,7 +12,8 @@ use Rattle.settlement.proofs.money.dues.Statement.{statement}
 use Rattle.settlement.proofs.money.dues.Tie as tie
 
 abbrev Inv-loop : tie.InvT-loop
-Inv-loop credits load-shares charges dues₀ p₀ dues p = Filled 16 (λ k. cents (subℕ (above (centsOf credits k) + above (centsOf load-shares k)) (above (centsOf charges k)))) dues p
+Inv-loop credits load-shares charges dues₀ p₀ dues p =
+    Filled 16 (λ k. cents (subℕ (above (centsOf credits k) + above (centsOf load-shares k)) (above (centsOf charges k)))) dues p
 
 abbrev μ-loop : tie.MeasureT-loop
 μ-loop credits load-shares charges dues₀ p₀ dues p = 16 - p

@@ -31,41 +31,55 @@ ceilings-are : (c : tie.After-priced-each2) → Of (c .before .before .before .b
 unfolding ceiling
 ceilings-are c = priced-filled _ _ _ (c .before .excesses .ensures) (c .priced-each2 .ensures)
 
-by-ceiling-is : (c : tie.After-amounts) → Of (c .before .before .before .before .before) (λ N price days o. c .amounts .result ≡ listBelow 16 (ceiling N price days))
+by-ceiling-is : (c : tie.After-amounts)
+    → Of (c .before .before .before .before .before) (λ N price days o. c .amounts .result ≡ listBelow 16 (ceiling N price days))
 by-ceiling-is c = amounts-filled _ (ceilings-are (c .before)) (c .amounts .ensures)
 
-by-charge-is : (c : tie.After-amounts2) → Of (c .before .before .before .before .before .before) (λ N price days o. c .amounts2 .result ≡ listBelow 16 (charge N price days))
+by-charge-is : (c : tie.After-amounts2)
+    → Of (c .before .before .before .before .before .before) (λ N price days o. c .amounts2 .result ≡ listBelow 16 (charge N price days))
 by-charge-is c = amounts-filled _ (charges-are (c .before .before .before .before)) (c .amounts2 .ensures)
 
-charged-is : (c : tie.After-total) → Of (c .before .before .before .before .before .before .before) (λ N price days o. c .total .result ≡ cents (pos (charges N price days)))
+charged-is : (c : tie.After-total)
+    → Of (c .before .before .before .before .before .before .before) (λ N price days o. c .total .result ≡ cents (pos (charges N price days)))
 unfolding charges
 charged-is c = total-filled _ (by-charge-is (c .before)) (c .total .ensures)
 
-ceiling-is : (c : tie.After-total2) → Of (c .before .before .before .before .before .before .before .before) (λ N price days o. c .total2 .result ≡ cents (pos (ceilings N price days)))
+ceiling-is : (c : tie.After-total2)
+    → Of (c .before .before .before .before .before .before .before .before) (λ N price days o. c .total2 .result ≡ cents (pos (ceilings N price days)))
 unfolding ceilings
 ceiling-is c = total-filled _ (by-ceiling-is (c .before .before .before)) (c .total2 .ensures)
 
-credits-are : (c : tie.After-credits) → Of (c .before .before .before .before .before .before .before .before .before) (λ N price days o. c .credits .result ≡ money (credit N price days))
+credits-are : (c : tie.After-credits)
+    → Of (c .before .before .before .before .before .before .before .before .before) (λ N price days o. c .credits .result ≡ money (credit N price days))
 credits-are c =
-    credits-filled _ _ _ (charged-is (c .before .before)) (ceiling-is (c .before)) (ceilings-are (c .before .before .before .before .before)) (by-ceiling-is (c .before .before .before .before)) (c .credits .ensures)
+    credits-filled _ _ _ (charged-is (c .before .before)) (ceiling-is (c .before)) (ceilings-are (c .before .before .before .before .before))
+    (by-ceiling-is (c .before .before .before .before)) (c .credits .ensures)
 
-left-is : (c : tie.After-left-over) → Of (c .before .before .before .before .before .before .before .before .before .before) (λ N price days o. c .left-over .result ≡ cents (pos (left N price days)))
+left-is : (c : tie.After-left-over)
+    → Of (c .before .before .before .before .before .before .before .before .before .before)
+    (λ N price days o. c .left-over .result ≡ cents (pos (left N price days)))
 left-is c = left-filled _ _ _ (charged-is (c .before .before .before)) (ceiling-is (c .before .before)) (c .left-over .ensures)
 
-load-shares-are : (c : tie.After-split-cents) → Of (c .before .before .before .before .before .before .before .before .before .before .before) (λ N price days o. c .split-cents .result ≡ money (loadShare N price days o))
+load-shares-are : (c : tie.After-split-cents)
+    → Of (c .before .before .before .before .before .before .before .before .before .before .before)
+    (λ N price days o. c .split-cents .result ≡ money (loadShare N price days o))
 load-shares-are c = loads-filled _ _ _ _ (left-is (c .before)) (c .split-cents .ensures)
 
 shortfalls-requires : tie.Need-shortfalls-requires
 shortfalls-requires c κs = search needs
 
 priced-each-requires : tie.Need-priced-each-requires
-priced-each-requires c κs = let r = in-range (c .before) in (rw (sum-filled _ (c .shortfalls .ensures)) (r .shortfalls-to), r .price-to, r .days-to)
+priced-each-requires c κs =
+    let r = in-range (c .before) in
+    (rw (sum-filled _ (c .shortfalls .ensures)) (r .shortfalls-to), r .price-to, r .days-to)
 
 excesses-requires : tie.Need-excesses-requires
 excesses-requires c κs = search needs
 
 priced-each-requires-2 : tie.Need-priced-each-requires-2
-priced-each-requires-2 c κs = let r = in-range (c .before .before .before) in (rw (sum-filled _ (c .excesses .ensures)) (r .excesses-to), r .price-to, r .days-to)
+priced-each-requires-2 c κs =
+    let r = in-range (c .before .before .before) in
+    (rw (sum-filled _ (c .excesses .ensures)) (r .excesses-to), r .price-to, r .days-to)
 
 amounts-requires : tie.Need-amounts-requires
 amounts-requires c κs = search needs
@@ -79,11 +93,15 @@ total-requires c κs = rw (sum-filled _ (by-charge-is c)) (omega (arith, charges
 
 total-requires-2 : tie.Need-total-requires-2
 unfolding ceilings
-total-requires-2 c κs = rw (sum-filled _ (by-ceiling-is (c .before .before))) (omega (arith, ceilings-bound _ _ _ _ (c .before .before .before .before .before .before .before .pre)))
+total-requires-2 c κs =
+    rw (sum-filled _ (by-ceiling-is (c .before .before)))
+    (omega (arith, ceilings-bound _ _ _ _ (c .before .before .before .before .before .before .before .pre)))
 
 credits-requires : tie.Need-credits-requires
 unfolding above ceilings
-credits-requires c κs = rw (charged-is (c .before), sum-filled _ (by-ceiling-is (c .before .before .before))) (credits-fit _ _ _ _ (c .before .before .before .before .before .before .before .before .pre))
+credits-requires c κs =
+    rw (charged-is (c .before), sum-filled _ (by-ceiling-is (c .before .before .before)))
+    (credits-fit _ _ _ _ (c .before .before .before .before .before .before .before .before .pre))
 
 left-over-requires : tie.Need-left-over-requires
 left-over-requires c κs = search needs
@@ -96,14 +114,17 @@ is-unplaced-requires : tie.Need-is-unplaced-requires
 is-unplaced-requires c κs = search needs
 
 dues-requires : tie.Need-dues-requires
-dues-requires c κs = paid-fits _ _ _ _ (c .before .before .before .before .before .before .before .before .before .before .before .before .pre) (credits-are (c .before .before .before)) (load-shares-are (c .before))
+dues-requires c κs =
+    paid-fits _ _ _ _ (c .before .before .before .before .before .before .before .before .before .before .before .before .pre)
+    (credits-are (c .before .before .before)) (load-shares-are (c .before))
 
 returns : tie.Need-returns
 unfolding settled
 returns c =
     money-same
     (unplaced-is _ _ _ _ (left-is (c .before .before .before)) (c .before .is-unplaced .ensures))
-    (dues-filled _ _ _ _ (credits-are (c .before .before .before .before)) (load-shares-are (c .before .before)) (charges-are (c .before .before .before .before .before .before .before .before .before .before .before)) (c .dues .ensures))
+    (dues-filled _ _ _ _ (credits-are (c .before .before .before .before)) (load-shares-are (c .before .before))
+    (charges-are (c .before .before .before .before .before .before .before .before .before .before .before)) (c .dues .ensures))
 
 pub money-in-range-spec : {M : Type 1} → statement M
 money-in-range-spec =

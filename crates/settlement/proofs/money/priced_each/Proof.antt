@@ -27,7 +27,9 @@ array-read-priced : tie.Need-array-read-priced Inv-loop μ-loop
 array-read-priced c = search needs
 
 priced-requires : tie.Need-priced-requires Inv-loop μ-loop
-priced-requires c κs = let start = c .before .before in (omega (arith, sum-term (c .before .loop .p) 16 (element (start .args .t1)) (c .loop-test .taken)), start .pre .1, start .pre .2)
+priced-requires c κs =
+    let start = c .before .before in
+    (omega (arith, sum-term (c .before .loop .p) 16 (element (start .args .t1)) (c .loop-test .taken)), start .pre .1, start .pre .2)
 
 mul-money : tie.Need-mul-money Inv-loop μ-loop
 mul-money c = search needs

@@ -18,7 +18,10 @@ cents-requires : tie.Need-cents-requires
 cents-requires c κs = omega (arith, capped-sixteen (c .before .before .args .t1) (2 ^ 64 - 1) (search needs) (c .capped-sum .ensures))
 
 returns : tie.Need-returns
-returns c = c .cents .ensures ∙ ap (λ (n : ℕ). cents (pos n)) (omega (arith, capped-sixteen (c .before .before .before .args .t1) (2 ^ 64 - 1) (search needs) (c .before .capped-sum .ensures)))
+returns c =
+    c .cents .ensures
+    ∙ ap (λ (n : ℕ). cents (pos n))
+    (omega (arith, capped-sixteen (c .before .before .before .args .t1) (2 ^ 64 - 1) (search needs) (c .before .capped-sum .ensures)))
 
 pub total-spec : {M : Type 1} → statement M
 total-spec =

@@ -41,13 +41,22 @@ excess-of-requires-2 : tie.Need-excess-of-requires-2
 excess-of-requires-2 c κs = search needs
 
 add-unforced-difference-2 : tie.Need-add-unforced-difference-2
-add-unforced-difference-2 c = omega (arith, size-parts (c .before .before .before .before .before .before .before .before .args .net .0), size-parts (c .before .before .before .before .before .before .before .before .args .share .0))
+add-unforced-difference-2 c =
+    let start = c .before .before .before .before .before .before .before .before in
+    omega (arith, size-parts (start .args .net .0), size-parts (start .args .share .0))
 
 unforced-difference-requires : tie.Need-unforced-difference-requires
-unforced-difference-requires c κs = (omega (arith, size-parts (c .before .before .before .before .before .before .before .before .args .net .0), size-parts (c .before .before .before .before .before .before .before .before .args .share .0)), omega (arith, size-parts (c .before .before .before .before .before .before .before .before .args .net .0), size-parts (c .before .before .before .before .before .before .before .before .args .share .0)))
+unforced-difference-requires c κs =
+    let start = c .before .before .before .before .before .before .before .before in
+    omega (arith, size-parts (start .args .net .0), size-parts (start .args .share .0))
 
 returns-3 : tie.Need-returns-3
-returns-3 c = c .unforced-difference .ensures ∙ ap unforcedWatts (rw (c .before .before .before .before .shortfall-of .ensures .0, c .before .before .before .shortfall-of2 .ensures .0, c .before .before .excess-of .ensures .0, c .before .excess-of2 .ensures .0) (net-more _ _ (omega arith) (omega arith)))
+returns-3 c =
+    c .unforced-difference .ensures
+    ∙ ap unforcedWatts
+    (rw (c .before .before .before .before .shortfall-of .ensures .0, c .before .before .before .shortfall-of2 .ensures .0)
+    (rw (c .before .before .excess-of .ensures .0, c .before .excess-of2 .ensures .0)
+    (net-more _ _ (omega arith) (omega arith))))
 
 pub net-with-spec : {M : Type 1} → statement M
 net-with-spec =

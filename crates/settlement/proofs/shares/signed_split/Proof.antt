@@ -58,7 +58,10 @@ loop-again c = filled-more (c .before .before .loop .inv) (omega arith) (c .with
 
 returns : tie.Need-returns Inv-loop μ-loop
 unfolding splitSigned
-returns c = filled-all (c .before .loop .inv) (omega arith) ∙ list-same 16 _ _ (λ k h. ap (λ (n : ℕ). unforcedWatts (withSign (c .before .before .before .before .args .s .0) n)) (size (c .before .before) k h .is))
+returns c =
+    filled-all (c .before .loop .inv) (omega arith)
+    ∙ list-same 16 _ _
+    (λ k h. ap (λ (n : ℕ). unforcedWatts (withSign (c .before .before .before .before .args .s .0) n)) (size (c .before .before) k h .is))
 
 pub signed-split-spec : {M : Type 1} → statement M
 signed-split-spec =

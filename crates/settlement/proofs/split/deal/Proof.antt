@@ -13,7 +13,10 @@ use Rattle.settlement.proofs.split.deal.Statement.{statement}
 use Rattle.settlement.proofs.split.deal.Tie as tie
 
 abbrev Inv-loop : tie.InvT-loop
-Inv-loop amount weights z shares₀ sum₀ given₀ k₀ shares sum given k = Filled (length shares₀) (split amount (length weights) (element weights)) shares k × (sum ≡ sumBelow k (element weights)) × (given ≡ firstShares amount (length weights) (element weights) k)
+Inv-loop amount weights z shares₀ sum₀ given₀ k₀ shares sum given k =
+    Filled (length shares₀) (split amount (length weights) (element weights)) shares k
+    × (sum ≡ sumBelow k (element weights))
+    × (given ≡ firstShares amount (length weights) (element weights) k)
 
 abbrev μ-loop : tie.MeasureT-loop
 μ-loop amount weights z shares₀ sum₀ given₀ k₀ shares sum given k = length shares₀ - k

@@ -39,7 +39,11 @@ same-length-2 : tie.Need-same-length-2
 same-length-2 c = search needs
 
 returns-2 : tie.Need-returns-2
-returns-2 c = c .before .before .clear .ensures ∙ answer-none _ (c .before .before .before .before .before .before .before .before .before .args .weights .now) _ (c .before .before .before .before .before .before .capped-sum .ensures) (sym (c .before .before .before .before .before .has-shares .ensures) ∙ c .before .before .before .before .if1 .left)
+returns-2 c =
+    c .before .before .clear .ensures
+    ∙ answer-none _ (c .before .before .before .before .before .before .before .before .before .args .weights .now) _
+    (c .before .before .before .before .before .before .capped-sum .ensures)
+    (sym (c .before .before .before .before .before .has-shares .ensures) ∙ c .before .before .before .before .if1 .left)
 
 pub split-spec : {M : Type 1} → statement M
 split-spec =
