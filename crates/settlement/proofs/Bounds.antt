@@ -4,7 +4,7 @@ use mathlib.Core.Bool.{true}
 use Prim.Native.Nat.{ℕ, zero, suc, _+_, _-_, _*_, _^_, _≤_, _<_, zero-le}
 use native.Mathlib.Nat.{le-trans, add-mul, mul-le-mul, div-le-of-le-mul}
 use native.Mathlib.Omega.{arith}
-use lib.IntN.{ℤ, natAbs}
+use lib.IntN.{ℤ, natAbs, _-ℤ_}
 use Rattle.calendar.specs.Sum.{sumBelow}
 use Rattle.calendar.proofs.Sums.{sum-term}
 use Rattle.settlement.specs.declared.capacity.UnitFacts.{UnitFacts}
@@ -14,8 +14,7 @@ use Rattle.settlement.specs.Split.{split, splitSigned}
 use Rattle.settlement.specs.Shares.{net}
 use Rattle.settlement.specs.Money.{priced, charge, ceiling, charges, ceilings, credit, left, loadShare, due, areaInRange}
 use Rattle.settlement.proofs.Sums.{sum-at-most, sum-exchange, sum-bounded}
-use Rattle.settlement.proofs.SignedSums.{above-difference, below-difference}
-use Rattle.settlement.proofs.Sizes.{above-size, below-size, sum-size, share-size}
+use Rattle.settlement.proofs.Sizes.{above-size, below-size, difference-size, less-size, sum-size, share-size}
 use Rattle.settlement.proofs.Splits.{shares-at-most}
 use Rattle.settlement.proofs.Capacities.{committed-at-most, limited-shortfall-size, UnitRange, unit-range, AreaRange, area-range}
 use Rattle.settlement.proofs.Balance.{credits-add-up}
@@ -122,16 +121,17 @@ received-at-most N price days o p h =
       shares-at-most (left N price days) 16 o,
     )
 
-pub due-above : (N : ℕ → ℤ) (price days : ℕ) (o : ℕ → ℕ) (p : ℕ) → p < 16 → areaInRange N price days o ≡ true
-    → above (due N price days o p) ≤ 2928000000
-unfolding due
-due-above N price days o p h q =
-    rw (above-difference (credit N price days p + loadShare N price days o p) (charge N price days p))
-    (omega (arith, received-at-most N price days o p h, charges-bound N price days o q))
-
-pub due-below : (N : ℕ → ℤ) (price days : ℕ) (o : ℕ → ℕ) (p : ℕ) → p < 16 → areaInRange N price days o ≡ true
-    → below (due N price days o p) ≤ 2928000000
+pub due-bound : (N : ℕ → ℤ) (price days : ℕ) (o : ℕ → ℕ) (p : ℕ) → p < 16 → areaInRange N price days o ≡ true
+    → natAbs (due N price days o p) ≤ 2928000000
 unfolding due charges
-due-below N price days o p h q =
-    rw (below-difference (credit N price days p + loadShare N price days o p) (charge N price days p))
-    (omega (arith, sum-term p 16 (charge N price days) h, charges-bound N price days o q))
+due-bound N price days o p h q =
+    omega (
+      arith,
+      difference-size (credit N price days p + loadShare N price days o p) (charge N price days p),
+      received-at-most N price days o p h,
+      sum-term p 16 (charge N price days) h,
+      charges-bound N price days o q,
+    )
+
+pub line-bound : (d earlier : ℤ) → natAbs d ≤ 2928000000 → natAbs earlier ≤ 2928000000 → natAbs (d -ℤ earlier) ≤ 5856000000
+line-bound d earlier h k = omega (arith, less-size d earlier)

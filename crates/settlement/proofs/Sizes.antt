@@ -3,7 +3,7 @@ use mathlib.Core.Path.{_≡_, refl}
 use Prim.Native.Nat.{ℕ, zero, suc, _+_, _≤_, max, zero-le}
 use native.Mathlib.Nat.{le-refl}
 use native.Mathlib.Omega.{arith}
-use lib.IntN.{ℤ, pos, negsuc, natAbs, subℕ, negℤ, _+ℤ_}
+use lib.IntN.{ℤ, pos, negsuc, natAbs, subℕ, negℤ, _+ℤ_, _-ℤ_}
 use Rattle.calendar.specs.Sum.{sumBelow}
 use Rattle.settlement.specs.Signed.{above, below, sumBelowℤ}
 use Rattle.settlement.specs.Split.{split, withSign, splitSigned}
@@ -29,6 +29,14 @@ add-size (pos a) (negsuc b) = omega (arith, difference-size a (suc b))
 add-size (negsuc a) (pos b) = omega (arith, difference-size b (suc a))
 add-size (negsuc a) (negsuc b) = omega arith
 
+negated-size : (z : ℤ) → natAbs (negℤ z) ≡ natAbs z
+negated-size (pos zero) = refl
+negated-size (pos (suc n)) = refl
+negated-size (negsuc n) = refl
+
+pub less-size : (a b : ℤ) → natAbs (a -ℤ b) ≤ natAbs a + natAbs b
+less-size a b = omega (arith, add-size a (negℤ b), negated-size b)
+
 pub sum-size : (n : ℕ) (f : ℕ → ℤ) → natAbs (sumBelowℤ n f) ≤ sumBelow n (λ k. natAbs (f k))
 unfolding sumBelow sumBelowℤ
 sum-size zero f = zero-le
@@ -37,8 +45,4 @@ sum-size (suc n) f = omega (arith, add-size (sumBelowℤ n f) (f n), sum-size n 
 pub share-size : (z : ℤ) (n : ℕ) (w : ℕ → ℕ) (k : ℕ) → natAbs (splitSigned z n w k) ≡ split (natAbs z) n w k
 unfolding splitSigned withSign
 share-size (pos a) n w k = refl
-share-size (negsuc a) n w k = negated (split (suc a) n w k)
-  where
-    negated : (x : ℕ) → natAbs (negℤ (pos x)) ≡ x
-    negated zero = refl
-    negated (suc x) = refl
+share-size (negsuc a) n w k = negated-size (pos (split (suc a) n w k))

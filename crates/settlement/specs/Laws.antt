@@ -2,7 +2,7 @@
 use mathlib.Core.Path.{_≡_}
 use mathlib.Core.Bool.{true, false}
 use Prim.Native.Nat.{ℕ, _+_, _-_, _*_, _^_, _≤_, _<_, min}
-use lib.IntN.{ℤ, pos, natAbs}
+use lib.IntN.{ℤ, pos, natAbs, _-ℤ_}
 use lib.Signed.{_≤ℤ_}
 use Rattle.calendar.specs.Sum.{sumBelow}
 use Rattle.settlement.specs.declared.capacity.UnitFacts.{UnitFacts}
@@ -65,5 +65,7 @@ pub record Bounds : Type 0 where
   pub ceilings-bound : (N : ℕ → ℤ) (price days : ℕ) (o : ℕ → ℕ) → areaInRange N price days o ≡ true → ceilings N price days ≤ 2928000000
   pub credits-fit : (N : ℕ → ℤ) (price days : ℕ) (o : ℕ → ℕ) → areaInRange N price days o ≡ true → charges N price days * ceilings N price days < 2 ^ 63
   pub load-shares-fit : (N : ℕ → ℤ) (price days : ℕ) (o : ℕ → ℕ) → areaInRange N price days o ≡ true → left N price days * sumBelow 16 o < 2 ^ 63
-  pub due-above : (N : ℕ → ℤ) (price days : ℕ) (o : ℕ → ℕ) (p : ℕ) → p < 16 → areaInRange N price days o ≡ true → above (due N price days o p) ≤ 2928000000
-  pub due-below : (N : ℕ → ℤ) (price days : ℕ) (o : ℕ → ℕ) (p : ℕ) → p < 16 → areaInRange N price days o ≡ true → below (due N price days o p) ≤ 2928000000
+  pub due-bound : (N : ℕ → ℤ) (price days : ℕ) (o : ℕ → ℕ) (p : ℕ) → p < 16 → areaInRange N price days o ≡ true
+      → natAbs (due N price days o p) ≤ 2928000000
+  -- a line, which is a due less an earlier one
+  pub line-bound : (d earlier : ℤ) → natAbs d ≤ 2928000000 → natAbs earlier ≤ 2928000000 → natAbs (d -ℤ earlier) ≤ 5856000000

@@ -17,8 +17,8 @@ returns c =
       ceilings-bound = bounds.ceilings-bound;
       credits-fit = bounds.credits-fit;
       load-shares-fit = bounds.load-shares-fit;
-      due-above = bounds.due-above;
-      due-below = bounds.due-below;
+      due-bound = bounds.due-bound;
+      line-bound = bounds.line-bound;
     }
 
 pub bounds-spec : {M : Type 1} → statement M
