@@ -1,5 +1,6 @@
 -- Laws of signs and of nets with one share more.
 use mathlib.Core.Path.{_≡_, refl, sym, ap, _∙_}
+use mathlib.Core.List.{List}
 use mathlib.Core.Bool.{Bool, true, false, cond, _&&_}
 use Prim.Native.Nat.{ℕ, zero, suc, _+_, _-_, _*_, _^_, _≤_, _<_, min}
 use native.Mathlib.Nat.{sub-zero, zero-mul}
@@ -9,13 +10,17 @@ use lib.Dec.{leb}
 use borrow.Author.Tests.{le-leb, lt-leb, leb-true, leb-false}
 use Rattle.calendar.specs.Range.{within}
 use Rattle.settlement.specs.declared.capacity.UnitFacts.{UnitFacts}
+use Rattle.settlement.specs.Lists.{listBelow, element}
 use Rattle.settlement.specs.Signed.{above, below}
-use Rattle.settlement.specs.Capacity.{limitedShortfall, unitInRange, yearInRange, shortfallAnswer}
-use Rattle.settlement.specs.Split.{withSign}
-use Rattle.settlement.specs.Shares.{netWith}
+use Rattle.settlement.specs.Quantities.{unforcedWatts}
+use Rattle.settlement.specs.Capacity.{wattDaysOf, limitedShortfall, unitInRange, yearInRange, shortfallAnswer}
+use Rattle.settlement.specs.Split.{withSign, splitSigned}
+use Rattle.settlement.specs.Shares.{unitShare, sharesAnswer, netWith}
 use Rattle.settlement.proofs.Tests.{both-true}
+use Rattle.settlement.proofs.Lists.{list-same}
 use Rattle.settlement.proofs.Signs.{sub-positive, sub-negative}
 use Rattle.settlement.proofs.SignedSums.{signed-parts, add-differences}
+use Rattle.settlement.proofs.Splits.{no-amount}
 use Rattle.settlement.proofs.Capacities.{YearRange, ranges}
 use Rattle.settlement.proofs.Bounds.{split-bound}
 
@@ -80,3 +85,19 @@ module _ (u : UnitFacts) (days t : ℕ) {v : ℕ} (isv : v ≡ min t (2 ^ 64 - 1
       go : (b : Bool) → (unitInRange u && yearInRange t days) ≡ b → natAbs (cond b (limitedShortfall u t days) (pos 0)) * t < 2 ^ 63
       go true q = omega (arith, split-bound u t days (both-true q .0) (ranges u t days q .1 .v-to))
       go false q = omega (arith, zero-mul t)
+
+-- the shares of what is answered for a unit
+pub shares-answered : (u : UnitFacts) (parts : List ℕ) (days : ℕ)
+    → listBelow 16 (λ p. unforcedWatts (splitSigned (shortfallAnswer u (wattDaysOf (element parts)) days) 16 (element parts) p))
+    ≡ sharesAnswer u parts days
+unfolding shortfallAnswer unitShare sharesAnswer splitSigned withSign
+shares-answered u parts days = go (unitInRange u && yearInRange (wattDaysOf (element parts)) days)
+  where
+    limitedS : ℤ
+    limitedS = limitedShortfall u (wattDaysOf (element parts)) days
+
+    go : (b : Bool)
+        → listBelow 16 (λ p. unforcedWatts (splitSigned (cond b limitedS (pos 0)) 16 (element parts) p))
+        ≡ cond b (listBelow 16 (λ p. unforcedWatts (splitSigned limitedS 16 (element parts) p))) (listBelow 16 (λ p. unforcedWatts (pos 0)))
+    go true = refl
+    go false = list-same 16 _ _ (λ p h. ap (λ (n : ℕ). unforcedWatts (pos n)) (no-amount 16 (element parts) p))

@@ -10,7 +10,7 @@ use Rattle.settlement.specs.declared.capacity.UnitFacts.{UnitFacts}
 use Rattle.settlement.specs.Lists.{listBelow, element}
 use Rattle.settlement.specs.Signed.{sumBelowℤ}
 use Rattle.settlement.specs.Quantities.{unforcedWatts}
-use Rattle.settlement.specs.Capacity.{wattDaysOf, limitedShortfall, shortfallAnswer}
+use Rattle.settlement.specs.Capacity.{wattDaysOf, limitedShortfall, unitInRange, yearInRange}
 use Rattle.settlement.specs.Split.{splitSigned}
 
 -- A unit's limited S is split over parties, ascending, by their parts of V. If V = 0 it has no shares.
@@ -25,10 +25,12 @@ net units share p = sumBelowℤ units (λ u. share u p)
 abbrev pub wattsOf : List UnforcedWatts → ℕ → ℤ
 wattsOf l p = getD l p (unforcedWatts (pos 0)) .0
 
--- What the public functions answer: the shares of what `limited_shortfall` answers, so that out of range all are 0.
+-- What the public functions answer. Out of the ranges of a unit and its year there are no shares.
 unfoldable pub sharesAnswer : UnitFacts → List ℕ → ℕ → List UnforcedWatts
 sharesAnswer u parts days =
-    listBelow 16 (λ p. unforcedWatts (splitSigned (shortfallAnswer u (wattDaysOf (element parts)) days) 16 (element parts) p))
+    cond (unitInRange u && yearInRange (wattDaysOf (element parts)) days)
+    (listBelow 16 (λ p. unforcedWatts (unitShare u (element parts) days p)))
+    (listBelow 16 (λ p. unforcedWatts (pos 0)))
 
 -- A net with one share more. A net is at most 32 × 5,000,000 = 160,000,000 W in size; past that the sum is 0.
 unfoldable pub netWith : ℤ → ℤ → ℤ

@@ -28,11 +28,12 @@ returns-2 : tie.Need-returns-2
 unfolding available above
 returns-2 c =
     c .higher .ensures
-    ∙ simp
-    (c .before .before .before .peak-rated .ensures,
-    c .before .before .before .before .before .before .unforced .ensures,
-    ne-eqb _ _ (c .before .before .before .before .if1 .left),
-    lt-ltb _ _ (c .before .if2 .taken))
+    ∙ simp (
+      c .before .before .before .peak-rated .ensures,
+      c .before .before .before .before .before .before .unforced .ensures,
+      ne-eqb _ _ (c .before .before .before .before .if1 .left),
+      lt-ltb _ _ (c .before .if2 .taken),
+    )
 
 returns-3 : tie.Need-returns-3
 unfolding available

@@ -20,9 +20,10 @@ unit-shortfall-requires : tie.Need-unit-shortfall-requires
 unit-shortfall-requires c κs = (committed-small c, both-true (c .before .before .pre) .0)
 
 unit-limit-requires : tie.Need-unit-limit-requires
-unit-limit-requires c κs =
-    (omega (arith, committed-small (c .before), ranges _ _ _ (c .before .before .before .pre) .0 .installed-to),
-    both-true (c .before .before .before .pre) .0)
+unit-limit-requires c κs = (
+  omega (arith, committed-small (c .before), ranges _ _ _ (c .before .before .before .pre) .0 .installed-to),
+  both-true (c .before .before .before .pre) .0,
+)
 
 limited-requires : tie.Need-limited-requires
 limited-requires c κs = search needs

@@ -8,9 +8,8 @@ use Rattle.settlement.specs.Lists.{listBelow, element}
 use Rattle.settlement.specs.Quantities.{unforcedWatts}
 use Rattle.settlement.specs.Capacity.{wattDaysOf}
 use Rattle.settlement.specs.Split.{splitSigned}
-use Rattle.settlement.specs.Shares.{sharesAnswer}
 use Rattle.settlement.proofs.CappedSums.{capped-sixteen}
-use Rattle.settlement.proofs.Nets.{shortfall-splits, capped-shortfall}
+use Rattle.settlement.proofs.Nets.{shortfall-splits, capped-shortfall, shares-answered}
 use Rattle.settlement.proofs.shares.unit_shares.Statement.{statement}
 use Rattle.settlement.proofs.shares.unit_shares.Tie as tie
 
@@ -33,12 +32,13 @@ signed-split-requires : tie.Need-signed-split-requires
 signed-split-requires c κs = rw (c .limited-shortfall .ensures) (shortfall-splits _ _ _ (capped (c .before)))
 
 returns : tie.Need-returns
-unfolding sharesAnswer wattDaysOf
+unfolding wattDaysOf
 returns c =
     let parts = c .before .before .before .before .args .t2 in
     c .signed-split .ensures
     ∙ ap (λ (w : UnforcedWatts). listBelow 16 (λ p. unforcedWatts (splitSigned (w .0) 16 (element parts) p))) (c .before .limited-shortfall .ensures)
     ∙ ap (λ (z : ℤ). listBelow 16 (λ p. unforcedWatts (splitSigned z 16 (element parts) p))) (capped-shortfall _ _ _ (capped (c .before .before)))
+    ∙ shares-answered _ parts _
 
 pub unit-shares-spec : {M : Type 1} → statement M
 unit-shares-spec =
