@@ -11,13 +11,13 @@ ghost use lib.IntN.{pos, subℕ};
 ghost use Rattle.settlement.specs.Signed.{above, below};
 ghost use Rattle.settlement.specs.Quantities.{unforcedWatts, cents};
 
-pub fn shortfall_of(w: UnforcedWatts) -> u64
+pub fn watts_above(w: UnforcedWatts) -> u64
     ensures { λ r. ⌜ (r ≡ above (w .0)) × (r < 2 ^ 63) ⌝ }
 {
     above(w.0)
 }
 
-pub fn excess_of(w: UnforcedWatts) -> u64
+pub fn watts_below(w: UnforcedWatts) -> u64
     ensures { λ r. ⌜ (r ≡ below (w .0)) × (r ≤ 2 ^ 63) ⌝ }
 {
     below(w.0)
@@ -37,7 +37,7 @@ pub fn unforced_difference(a: u64, b: u64) -> UnforcedWatts
     UnforcedWatts(difference(a, b))
 }
 
-pub fn amount_of(c: Cents) -> u64
+pub fn cents_above(c: Cents) -> u64
     ensures { λ r. ⌜ (r ≡ above (c .0)) × (r < 2 ^ 63) ⌝ }
 {
     above(c.0)

@@ -1,9 +1,9 @@
 // From a set to its shortfall. The named formula functions here are where installed watts become unforced ones.
 use crate::InstalledWatts;
 use crate::UnforcedWatts;
-use crate::amounts::shortfall_of;
 use crate::amounts::unforced_difference;
 use crate::amounts::unforced_watts;
+use crate::amounts::watts_above;
 use calendar::range::within;
 ghost use mathlib.Core.Path.{_≡_};
 ghost use mathlib.Core.Bool.{true, _&&_};
@@ -85,8 +85,8 @@ fn peak_rated(t: InstalledWatts, u: UnitFacts) -> UnforcedWatts
 fn higher(a: UnforcedWatts, b: UnforcedWatts) -> UnforcedWatts
     ensures { λ r. ⌜ r ≡ unforcedWatts (pos (max (above (a .0)) (above (b .0)))) ⌝ }
 {
-    let x = shortfall_of(a);
-    let y = shortfall_of(b);
+    let x = watts_above(a);
+    let y = watts_above(b);
     if x < y {
         unforced_watts(y)
     } else {
@@ -114,7 +114,7 @@ fn available(t: InstalledWatts, u: UnitFacts) -> UnforcedWatts
 fn shortfall(x: UnforcedWatts, p: UnforcedWatts) -> UnforcedWatts
     ensures { λ r. ⌜ r ≡ unforcedWatts (shortfall (above (x .0)) (above (p .0))) ⌝ }
 {
-    unforced_difference(shortfall_of(x), shortfall_of(p))
+    unforced_difference(watts_above(x), watts_above(p))
 }
 
 fn quarters(class: u64) -> u64
@@ -132,15 +132,15 @@ fn limit(u: UnforcedWatts, class: u64) -> UnforcedWatts
     requires { ⌜ above (u .0) ≤ 5000000 ⌝ }
     ensures { λ r. ⌜ r ≡ unforcedWatts (pos (limit (above (u .0)) class)) ⌝ }
 {
-    unforced_watts(shortfall_of(u) * quarters(class) / 4)
+    unforced_watts(watts_above(u) * quarters(class) / 4)
 }
 
 // S after the limit.
 fn limited(s: UnforcedWatts, l: UnforcedWatts) -> UnforcedWatts
     ensures { λ r. ⌜ r ≡ unforcedWatts (limited (above (l .0)) (s .0)) ⌝ }
 {
-    let most = shortfall_of(l);
-    if most < shortfall_of(s) {
+    let most = watts_above(l);
+    if most < watts_above(s) {
         unforced_watts(most)
     } else {
         s

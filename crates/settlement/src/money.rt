@@ -1,11 +1,11 @@
 // Area money: from the parties' nets to their dues.
 use crate::Cents;
 use crate::UnforcedWatts;
-use crate::amounts::amount_of;
 use crate::amounts::cents;
+use crate::amounts::cents_above;
 use crate::amounts::cents_difference;
-use crate::amounts::excess_of;
-use crate::amounts::shortfall_of;
+use crate::amounts::watts_above;
+use crate::amounts::watts_below;
 use crate::split::capped_sum;
 use crate::split::split_by_party;
 ghost use mathlib.Core.Path.{_≡_};
@@ -35,7 +35,7 @@ fn shortfalls(nets: [UnforcedWatts; 16]) -> [u64; 16]
     let mut p = 0;
     while p < 16 {
         let net = nets[p];
-        parts[p] = shortfall_of(net);
+        parts[p] = watts_above(net);
         p += 1;
     }
     parts
@@ -48,7 +48,7 @@ fn excesses(nets: [UnforcedWatts; 16]) -> [u64; 16]
     let mut p = 0;
     while p < 16 {
         let net = nets[p];
-        parts[p] = excess_of(net);
+        parts[p] = watts_below(net);
         p += 1;
     }
     parts
@@ -82,7 +82,7 @@ fn amounts(money: [Cents; 16]) -> [u64; 16]
     let mut p = 0;
     while p < 16 {
         let m = money[p];
-        amounts[p] = amount_of(m);
+        amounts[p] = cents_above(m);
         p += 1;
     }
     amounts
@@ -101,7 +101,7 @@ fn split_cents(money: Cents, weights: [u64; 16]) -> [Cents; 16]
     requires { ⌜ above (money .0) * sumBelow 16 (element weights) < 2 ^ 63 ⌝ }
     ensures { λ r. ⌜ r ≡ listBelow 16 (λ p. cents (pos (split (above (money .0)) 16 (element weights) p))) ⌝ }
 {
-    let amounts = split_by_party(amount_of(money), weights);
+    let amounts = split_by_party(cents_above(money), weights);
     let mut shares = [Cents(0); 16];
     let mut p = 0;
     while p < 16 {
@@ -116,7 +116,10 @@ fn due(credit: Cents, load_share: Cents, charge: Cents) -> Cents
     requires { ⌜ above (credit .0) + above («load_share» .0) < 2 ^ 63 ⌝ }
     ensures { λ r. ⌜ r ≡ cents (subℕ (above (credit .0) + above («load_share» .0)) (above (charge .0))) ⌝ }
 {
-    cents_difference(amount_of(credit) + amount_of(load_share), amount_of(charge))
+    cents_difference(
+        cents_above(credit) + cents_above(load_share),
+        cents_above(charge),
+    )
 }
 
 fn dues(credits: [Cents; 16], load_shares: [Cents; 16], charges: [Cents; 16]) -> [Cents; 16]
@@ -146,7 +149,7 @@ fn credits(
     ensures { λ r. ⌜ r ≡ cond (ltb (above (charged .0)) (above (ceiling .0)))
         (listBelow 16 (λ p. cents (pos (split (above (charged .0)) 16 (element «by_ceiling») p)))) ceilings ⌝ }
 {
-    if amount_of(charged) < amount_of(ceiling) {
+    if cents_above(charged) < cents_above(ceiling) {
         return split_cents(charged, by_ceiling);
     }
     ceilings
@@ -156,8 +159,8 @@ fn credits(
 fn left_over(charged: Cents, ceiling: Cents) -> Cents
     ensures { λ r. ⌜ r ≡ cents (pos (above (charged .0) - above (ceiling .0))) ⌝ }
 {
-    let r = amount_of(charged);
-    let m = amount_of(ceiling);
+    let r = cents_above(charged);
+    let m = cents_above(ceiling);
     if r < m { cents(0) } else { cents(r - m) }
 }
 
@@ -165,7 +168,7 @@ fn left_over(charged: Cents, ceiling: Cents) -> Cents
 fn is_unplaced(left: Cents, obligations: [u64; 16]) -> bool
     ensures { λ r. ⌜ r ≡ (ltb 0 (above (left .0)) && eqb (sumBelow 16 (element obligations)) 0) ⌝ }
 {
-    if amount_of(left) == 0 {
+    if cents_above(left) == 0 {
         return false;
     }
     capped_sum(&obligations) == 0

@@ -1,9 +1,9 @@
 // A unit's shares over the sixteen parties, and the parties' nets in an area.
 use crate::UnforcedWatts;
-use crate::amounts::excess_of;
-use crate::amounts::shortfall_of;
 use crate::amounts::unforced_difference;
 use crate::amounts::unforced_watts;
+use crate::amounts::watts_above;
+use crate::amounts::watts_below;
 use crate::capacity::UnitFacts;
 use crate::capacity::limited_shortfall;
 use crate::split::capped_sum;
@@ -20,7 +20,7 @@ ghost use Rattle.settlement.specs.Shares.{sharesAnswer, netWith, netsAns
 fn size_of(w: UnforcedWatts) -> u64
     ensures { λ r. ⌜ (r ≡ natAbs (w .0)) × (r ≤ 2 ^ 63) ⌝ }
 {
-    shortfall_of(w) + excess_of(w)
+    watts_above(w) + watts_below(w)
 }
 
 // So many watts on the same side of zero as w.
@@ -28,7 +28,7 @@ fn with_sign(w: UnforcedWatts, size: u64) -> UnforcedWatts
     requires { ⌜ size < 2 ^ 63 ⌝ }
     ensures { λ r. ⌜ r ≡ unforcedWatts (withSign (w .0) size) ⌝ }
 {
-    if excess_of(w) == 0 {
+    if watts_below(w) == 0 {
         unforced_difference(size, 0)
     } else {
         unforced_difference(0, size)
@@ -77,8 +77,8 @@ fn net_with(net: UnforcedWatts, share: UnforcedWatts) -> UnforcedWatts
         return unforced_watts(0);
     }
     unforced_difference(
-        shortfall_of(net) + shortfall_of(share),
-        excess_of(net) + excess_of(share),
+        watts_above(net) + watts_above(share),
+        watts_below(net) + watts_below(share),
     )
 }
 

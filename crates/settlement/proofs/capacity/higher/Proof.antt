@@ -7,11 +7,11 @@ use Rattle.settlement.specs.Quantities.{unforcedWatts}
 use Rattle.settlement.proofs.capacity.higher.Statement.{statement}
 use Rattle.settlement.proofs.capacity.higher.Tie as tie
 
-shortfall-of-requires : tie.Need-shortfall-of-requires
-shortfall-of-requires c κs = search needs
+watts-above-requires : tie.Need-watts-above-requires
+watts-above-requires c κs = search needs
 
-shortfall-of-requires-2 : tie.Need-shortfall-of-requires-2
-shortfall-of-requires-2 c κs = search needs
+watts-above-requires-2 : tie.Need-watts-above-requires-2
+watts-above-requires-2 c κs = search needs
 
 unforced-watts-requires : tie.Need-unforced-watts-requires
 unforced-watts-requires c κs = search needs
@@ -29,8 +29,8 @@ pub higher-spec : {M : Type 1} → statement M
 higher-spec =
     tie.close
     (tie.spec
-    shortfall-of-requires
-    shortfall-of-requires-2
+    watts-above-requires
+    watts-above-requires-2
     unforced-watts-requires
     unforced-watts-requires-2
     returns

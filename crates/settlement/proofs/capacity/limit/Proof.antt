@@ -6,27 +6,27 @@ use Rattle.settlement.proofs.Formulas.{limit-fits}
 use Rattle.settlement.proofs.capacity.limit.Statement.{statement}
 use Rattle.settlement.proofs.capacity.limit.Tie as tie
 
-shortfall-of-requires : tie.Need-shortfall-of-requires
-shortfall-of-requires c κs = search needs
+watts-above-requires : tie.Need-watts-above-requires
+watts-above-requires c κs = search needs
 
 quarters-requires : tie.Need-quarters-requires
 quarters-requires c κs = search needs
 
 mul-unforced-watts : tie.Need-mul-unforced-watts
-mul-unforced-watts c = omega (arith, limit-fits {u = c .before .shortfall-of .result} {q = c .quarters .result} (omega arith) (omega arith))
+mul-unforced-watts c = omega (arith, limit-fits {u = c .before .watts-above .result} {q = c .quarters .result} (omega arith) (omega arith))
 
 unforced-watts-requires : tie.Need-unforced-watts-requires
-unforced-watts-requires c κs = omega (arith, limit-fits {u = c .before .shortfall-of .result} {q = c .quarters .result} (omega arith) (omega arith))
+unforced-watts-requires c κs = omega (arith, limit-fits {u = c .before .watts-above .result} {q = c .quarters .result} (omega arith) (omega arith))
 
 returns : tie.Need-returns
 unfolding limit
-returns c = c .unforced-watts .ensures ∙ simp (c .before .before .shortfall-of .ensures .0, c .before .quarters .ensures .0)
+returns c = c .unforced-watts .ensures ∙ simp (c .before .before .watts-above .ensures .0, c .before .quarters .ensures .0)
 
 pub limit-spec : {M : Type 1} → statement M
 limit-spec =
     tie.close
     (tie.spec
-    shortfall-of-requires
+    watts-above-requires
     quarters-requires
     mul-unforced-watts
     unforced-watts-requires

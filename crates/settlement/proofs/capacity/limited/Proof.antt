@@ -6,17 +6,17 @@ use Rattle.settlement.proofs.Formulas.{over-limit, under-limit}
 use Rattle.settlement.proofs.capacity.limited.Statement.{statement}
 use Rattle.settlement.proofs.capacity.limited.Tie as tie
 
-shortfall-of-requires : tie.Need-shortfall-of-requires
-shortfall-of-requires c κs = search needs
+watts-above-requires : tie.Need-watts-above-requires
+watts-above-requires c κs = search needs
 
-shortfall-of-requires-2 : tie.Need-shortfall-of-requires-2
-shortfall-of-requires-2 c κs = search needs
+watts-above-requires-2 : tie.Need-watts-above-requires-2
+watts-above-requires-2 c κs = search needs
 
 unforced-watts-requires : tie.Need-unforced-watts-requires
 unforced-watts-requires c κs = search needs
 
 returns : tie.Need-returns
-returns c = c .unforced-watts .ensures ∙ ap unforcedWatts (rw (c .before .before .before .shortfall-of .ensures .0) (sym (over-limit _ _ (omega arith))))
+returns c = c .unforced-watts .ensures ∙ ap unforcedWatts (rw (c .before .before .before .watts-above .ensures .0) (sym (over-limit _ _ (omega arith))))
 
 returns-2 : tie.Need-returns-2
 returns-2 c = ap unforcedWatts (sym (under-limit _ _ (omega arith)))
@@ -25,8 +25,8 @@ pub limited-spec : {M : Type 1} → statement M
 limited-spec =
     tie.close
     (tie.spec
-    shortfall-of-requires
-    shortfall-of-requires-2
+    watts-above-requires
+    watts-above-requires-2
     unforced-watts-requires
     returns
     returns-2)

@@ -23,8 +23,8 @@ mul-m c = search needs
 array-copy-out-m : tie.Need-array-copy-out-m Inv-loop μ-loop
 array-copy-out-m c = search needs
 
-amount-of-requires : tie.Need-amount-of-requires Inv-loop μ-loop
-amount-of-requires c κs = search needs
+cents-above-requires : tie.Need-cents-above-requires Inv-loop μ-loop
+cents-above-requires c κs = search needs
 
 mul-amounts : tie.Need-mul-amounts Inv-loop μ-loop
 mul-amounts c = search needs
@@ -39,7 +39,7 @@ loop-less : tie.Need-loop-less Inv-loop μ-loop
 loop-less c = search needs
 
 loop-again : tie.Need-loop-again Inv-loop μ-loop
-loop-again c = filled-more (c .before .before .before .loop .inv) (omega arith) (c .amount-of .ensures .0)
+loop-again c = filled-more (c .before .before .before .loop .inv) (omega arith) (c .cents-above .ensures .0)
 
 returns : tie.Need-returns Inv-loop μ-loop
 returns c = filled-all (c .before .loop .inv) (omega arith)
@@ -53,7 +53,7 @@ amounts-spec =
     loop-holds
     mul-m
     array-copy-out-m
-    amount-of-requires
+    cents-above-requires
     mul-amounts
     array-write-amounts
     add-p

@@ -7,11 +7,11 @@ use Rattle.settlement.proofs.Tests.{chosen, refused}
 use Rattle.settlement.proofs.money.credits.Statement.{statement}
 use Rattle.settlement.proofs.money.credits.Tie as tie
 
-amount-of-requires : tie.Need-amount-of-requires
-amount-of-requires c κs = search needs
+cents-above-requires : tie.Need-cents-above-requires
+cents-above-requires c κs = search needs
 
-amount-of-requires-2 : tie.Need-amount-of-requires-2
-amount-of-requires-2 c κs = search needs
+cents-above-requires-2 : tie.Need-cents-above-requires-2
+cents-above-requires-2 c κs = search needs
 
 split-cents-requires : tie.Need-split-cents-requires
 split-cents-requires c κs = search needs
@@ -28,4 +28,4 @@ returns-2 c = refused _ (le-ltb (above (c .before .before .before .args .charged
 pub credits-spec : {M : Type 1} → statement M
 credits-spec =
     tie.close
-    (tie.spec amount-of-requires amount-of-requires-2 split-cents-requires returns returns-2)
+    (tie.spec cents-above-requires cents-above-requires-2 split-cents-requires returns returns-2)

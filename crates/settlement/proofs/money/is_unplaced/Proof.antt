@@ -9,8 +9,8 @@ use Rattle.settlement.proofs.CappedSums.{capped-sixteen, capped-zero}
 use Rattle.settlement.proofs.money.is_unplaced.Statement.{statement}
 use Rattle.settlement.proofs.money.is_unplaced.Tie as tie
 
-amount-of-requires : tie.Need-amount-of-requires
-amount-of-requires c κs = search needs
+cents-above-requires : tie.Need-cents-above-requires
+cents-above-requires c κs = search needs
 
 returns : tie.Need-returns
 returns c = failed _ (le-ltb 0 (above (c .before .before .args .left .0)) (omega arith))
@@ -29,4 +29,4 @@ returns-2 c =
 pub is-unplaced-spec : {M : Type 1} → statement M
 is-unplaced-spec =
     tie.close
-    (tie.spec amount-of-requires returns slice-aggregate-capped-sum capped-sum-requires returns-2)
+    (tie.spec cents-above-requires returns slice-aggregate-capped-sum capped-sum-requires returns-2)

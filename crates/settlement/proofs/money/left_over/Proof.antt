@@ -7,11 +7,11 @@ use Rattle.settlement.specs.Quantities.{cents}
 use Rattle.settlement.proofs.money.left_over.Statement.{statement}
 use Rattle.settlement.proofs.money.left_over.Tie as tie
 
-amount-of-requires : tie.Need-amount-of-requires
-amount-of-requires c κs = search needs
+cents-above-requires : tie.Need-cents-above-requires
+cents-above-requires c κs = search needs
 
-amount-of-requires-2 : tie.Need-amount-of-requires-2
-amount-of-requires-2 c κs = search needs
+cents-above-requires-2 : tie.Need-cents-above-requires-2
+cents-above-requires-2 c κs = search needs
 
 cents-requires : tie.Need-cents-requires
 cents-requires c κs = search needs
@@ -29,8 +29,8 @@ pub left-over-spec : {M : Type 1} → statement M
 left-over-spec =
     tie.close
     (tie.spec
-    amount-of-requires
-    amount-of-requires-2
+    cents-above-requires
+    cents-above-requires-2
     cents-requires
     cents-requires-2
     returns

@@ -23,8 +23,8 @@ mul-net c = search needs
 array-copy-out-net : tie.Need-array-copy-out-net Inv-loop μ-loop
 array-copy-out-net c = search needs
 
-shortfall-of-requires : tie.Need-shortfall-of-requires Inv-loop μ-loop
-shortfall-of-requires c κs = search needs
+watts-above-requires : tie.Need-watts-above-requires Inv-loop μ-loop
+watts-above-requires c κs = search needs
 
 mul-parts : tie.Need-mul-parts Inv-loop μ-loop
 mul-parts c = search needs
@@ -39,7 +39,7 @@ loop-less : tie.Need-loop-less Inv-loop μ-loop
 loop-less c = search needs
 
 loop-again : tie.Need-loop-again Inv-loop μ-loop
-loop-again c = filled-more (c .before .before .before .loop .inv) (omega arith) (c .shortfall-of .ensures .0)
+loop-again c = filled-more (c .before .before .before .loop .inv) (omega arith) (c .watts-above .ensures .0)
 
 returns : tie.Need-returns Inv-loop μ-loop
 returns c = filled-all (c .before .loop .inv) (omega arith)
@@ -53,7 +53,7 @@ shortfalls-spec =
     loop-holds
     mul-net
     array-copy-out-net
-    shortfall-of-requires
+    watts-above-requires
     mul-parts
     array-write-parts
     add-p

@@ -21,10 +21,10 @@ abbrev Share : tie.After-split-by-party Inv-loop μ-loop → ℕ → Type 0
 Share c k = let start = c .before .before in PartyShare (above (start .args .money .0)) (start .args .weights) (c .split-by-party .result) k
 
 share : (c : tie.After-split-by-party Inv-loop μ-loop) (k : ℕ) → k < 16 → Share c k
-share c k h = party-share _ (c .before .amount-of .ensures .0) (search needs) (c .before .before .pre) (c .split-by-party .ensures) k h
+share c k h = party-share _ (c .before .cents-above .ensures .0) (search needs) (c .before .before .pre) (c .split-by-party .ensures) k h
 
-amount-of-requires : tie.Need-amount-of-requires Inv-loop μ-loop
-amount-of-requires c κs = search needs
+cents-above-requires : tie.Need-cents-above-requires Inv-loop μ-loop
+cents-above-requires c κs = search needs
 
 split-by-party-requires : tie.Need-split-by-party-requires Inv-loop μ-loop
 split-by-party-requires c κs = search needs
@@ -65,7 +65,7 @@ split-cents-spec =
     (tie.spec
     Inv-loop
     μ-loop
-    amount-of-requires
+    cents-above-requires
     split-by-party-requires
     loop-holds
     mul-cents

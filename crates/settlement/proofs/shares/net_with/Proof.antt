@@ -25,20 +25,20 @@ unforced-watts-requires-2 c κs = search needs
 returns-2 : tie.Need-returns-2
 returns-2 c = c .unforced-watts2 .ensures ∙ ap unforcedWatts (share-too-large _ _ (omega arith) (omega arith))
 
-shortfall-of-requires : tie.Need-shortfall-of-requires
-shortfall-of-requires c κs = search needs
+watts-above-requires : tie.Need-watts-above-requires
+watts-above-requires c κs = search needs
 
-shortfall-of-requires-2 : tie.Need-shortfall-of-requires-2
-shortfall-of-requires-2 c κs = search needs
+watts-above-requires-2 : tie.Need-watts-above-requires-2
+watts-above-requires-2 c κs = search needs
 
 add-unforced-difference : tie.Need-add-unforced-difference
 add-unforced-difference c = search needs
 
-excess-of-requires : tie.Need-excess-of-requires
-excess-of-requires c κs = search needs
+watts-below-requires : tie.Need-watts-below-requires
+watts-below-requires c κs = search needs
 
-excess-of-requires-2 : tie.Need-excess-of-requires-2
-excess-of-requires-2 c κs = search needs
+watts-below-requires-2 : tie.Need-watts-below-requires-2
+watts-below-requires-2 c κs = search needs
 
 add-unforced-difference-2 : tie.Need-add-unforced-difference-2
 add-unforced-difference-2 c =
@@ -54,8 +54,8 @@ returns-3 : tie.Need-returns-3
 returns-3 c =
     c .unforced-difference .ensures
     ∙ ap unforcedWatts
-    (rw (c .before .before .before .before .shortfall-of .ensures .0, c .before .before .before .shortfall-of2 .ensures .0)
-    (rw (c .before .before .excess-of .ensures .0, c .before .excess-of2 .ensures .0)
+    (rw (c .before .before .before .before .watts-above .ensures .0, c .before .before .before .watts-above2 .ensures .0)
+    (rw (c .before .before .watts-below .ensures .0, c .before .watts-below2 .ensures .0)
     (net-more _ _ (omega arith) (omega arith))))
 
 pub net-with-spec : {M : Type 1} → statement M
@@ -68,11 +68,11 @@ net-with-spec =
     size-of-requires-2
     unforced-watts-requires-2
     returns-2
-    shortfall-of-requires
-    shortfall-of-requires-2
+    watts-above-requires
+    watts-above-requires-2
     add-unforced-difference
-    excess-of-requires
-    excess-of-requires-2
+    watts-below-requires
+    watts-below-requires-2
     add-unforced-difference-2
     unforced-difference-requires
     returns-3)

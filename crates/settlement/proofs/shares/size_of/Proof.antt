@@ -5,11 +5,11 @@ use Rattle.settlement.proofs.Sizes.{size-parts}
 use Rattle.settlement.proofs.shares.size_of.Statement.{statement}
 use Rattle.settlement.proofs.shares.size_of.Tie as tie
 
-shortfall-of-requires : tie.Need-shortfall-of-requires
-shortfall-of-requires c κs = search needs
+watts-above-requires : tie.Need-watts-above-requires
+watts-above-requires c κs = search needs
 
-excess-of-requires : tie.Need-excess-of-requires
-excess-of-requires c κs = search needs
+watts-below-requires : tie.Need-watts-below-requires
+watts-below-requires c κs = search needs
 
 add-result : tie.Need-add-result
 add-result c = search needs
@@ -18,4 +18,4 @@ returns : tie.Need-returns
 returns c = let z = c .before .before .args .w .0 in (omega (arith, size-parts z), omega (arith, one-side z))
 
 pub size-of-spec : {M : Type 1} → statement M
-size-of-spec = tie.close (tie.spec shortfall-of-requires excess-of-requires add-result returns)
+size-of-spec = tie.close (tie.spec watts-above-requires watts-below-requires add-result returns)

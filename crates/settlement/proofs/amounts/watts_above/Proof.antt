@@ -1,7 +1,7 @@
 use borrow.Author.Needs.{needs}
 use Rattle.settlement.proofs.Signs.{above-read}
-use Rattle.settlement.proofs.amounts.shortfall_of.Statement.{statement}
-use Rattle.settlement.proofs.amounts.shortfall_of.Tie as tie
+use Rattle.settlement.proofs.amounts.watts_above.Statement.{statement}
+use Rattle.settlement.proofs.amounts.watts_above.Tie as tie
 
 above-requires : tie.Need-above-requires
 above-requires c κs = search needs
@@ -9,5 +9,5 @@ above-requires c κs = search needs
 returns : tie.Need-returns
 returns c = above-read _ (c .before .struct-told .given .0 .1) (c .above .ensures)
 
-pub shortfall-of-spec : {M : Type 1} → statement M
-shortfall-of-spec = tie.close (tie.spec above-requires returns)
+pub watts-above-spec : {M : Type 1} → statement M
+watts-above-spec = tie.close (tie.spec above-requires returns)
