@@ -3,19 +3,21 @@ use mathlib.Core.Path.{_≡_}
 use mathlib.Core.Bool.{true}
 use Prim.Native.Nat.{ℕ, zero, suc, _+_, _-_, _*_, _^_, _≤_, _<_, zero-le}
 use native.Mathlib.Nat.{le-trans, add-mul, mul-le-mul, div-le-of-le-mul}
+use native.Mathlib.Numerals.{add-one}
 use native.Mathlib.Omega.{arith}
 use lib.IntN.{ℤ, natAbs, _-ℤ_}
+use borrow.Author.Tests.{le-leb}
 use Rattle.calendar.specs.Sum.{sumBelow}
 use Rattle.calendar.proofs.Sums.{sum-term}
 use Rattle.settlement.specs.declared.capacity.UnitFacts.{UnitFacts}
-use Rattle.settlement.specs.Signed.{above, below}
+use Rattle.settlement.specs.Signed.{above, below, sumBelowℤ}
 use Rattle.settlement.specs.Capacity.{wattDays, committed, limitedShortfall, unitInRange}
 use Rattle.settlement.specs.Split.{split, splitSigned}
-use Rattle.settlement.specs.Shares.{net}
+use Rattle.settlement.specs.Shares.{net, netWith}
 use Rattle.settlement.specs.Money.{priced, charge, ceiling, charges, ceilings, credit, left, loadShare, due, areaInRange}
 use Rattle.settlement.proofs.Sums.{sum-at-most, sum-exchange, sum-bounded}
 use Rattle.settlement.proofs.Sizes.{above-size, below-size, difference-size, less-size, sum-size, share-size}
-use Rattle.settlement.proofs.Splits.{shares-at-most}
+use Rattle.settlement.proofs.Splits.{shares-at-most, share-at-most}
 use Rattle.settlement.proofs.Capacities.{committed-at-most, limited-shortfall-size, UnitRange, unit-range, AreaRange, area-range}
 use Rattle.settlement.proofs.Balance.{credits-add-up}
 
@@ -63,6 +65,16 @@ shortfalls-bound n S w few each = le-trans (sum-at-most 16 _ _ (λ p h. above-si
 pub excesses-bound : (n : ℕ) (S : ℕ → ℤ) (w : ℕ → ℕ → ℕ) → n ≤ 32 → ((u : ℕ) → natAbs (S u) ≤ 5000000)
     → sumBelow 16 (λ p. below (net n (λ u. splitSigned (S u) 16 (w u)) p)) ≤ 160000000
 excesses-bound n S w few each = le-trans (sum-at-most 16 _ _ (λ p h. below-size _)) (sizes-bound n S w few each)
+
+pub net-steps : (n : ℕ) (S : ℕ → ℤ) (w : ℕ → ℕ → ℕ) (p : ℕ) → n < 32 → p < 16 → ((u : ℕ) → natAbs (S u) ≤ 5000000)
+    → netWith (net n (λ u. splitSigned (S u) 16 (w u)) p) (splitSigned (S n) 16 (w n) p) ≡ net (n + 1) (λ u. splitSigned (S u) 16 (w u)) p
+unfolding net netWith sumBelowℤ
+net-steps n S w p few h each =
+    let nets : ℕ → ℤ = net n (λ u. splitSigned (S u) 16 (w u)) in
+    let so-far : natAbs (nets p) ≤ 160000000 = omega (arith, sum-term p 16 (λ k. natAbs (nets k)) h, sizes-bound n S w (omega arith) each) in
+    let one-more : natAbs (splitSigned (S n) 16 (w n) p) ≤ 160000000 =
+          rw share-size (omega (arith, share-at-most (natAbs (S n)) 16 (w n) p h, each n)) in
+    simp (add-one, le-leb _ _ so-far, le-leb _ _ one-more)
 
 pub priced-bound : (w price days : ℕ) → w ≤ 160000000 → price ≤ 50000 → days ≤ 366 → w * price * days ≤ 2928000000000000
 priced-bound w price days hw hp hd =

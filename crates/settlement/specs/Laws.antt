@@ -9,7 +9,7 @@ use Rattle.settlement.specs.declared.capacity.UnitFacts.{UnitFacts}
 use Rattle.settlement.specs.Signed.{above, below, sumBelowℤ}
 use Rattle.settlement.specs.Capacity.{wattDays, committed, available, limited, limitedShortfall, unitInRange}
 use Rattle.settlement.specs.Split.{split, splitSigned}
-use Rattle.settlement.specs.Shares.{net}
+use Rattle.settlement.specs.Shares.{net, netWith}
 use Rattle.settlement.specs.Money.{ceiling, charges, ceilings, credit, left, loadShare, due, isUnplaced, areaInRange}
 
 -- the split, for any number n of weights w
@@ -59,6 +59,9 @@ pub record Bounds : Type 0 where
       → sumBelow 16 (λ p. above (net n (λ u. splitSigned (S u) 16 (w u)) p)) ≤ 160000000
   pub excesses-bound : (n : ℕ) (S : ℕ → ℤ) (w : ℕ → ℕ → ℕ) → n ≤ 32 → ((u : ℕ) → natAbs (S u) ≤ 5000000)
       → sumBelow 16 (λ p. below (net n (λ u. splitSigned (S u) 16 (w u)) p)) ≤ 160000000
+  -- so that adding up an area's nets share by share never meets the bound of `netWith`
+  pub net-steps : (n : ℕ) (S : ℕ → ℤ) (w : ℕ → ℕ → ℕ) (p : ℕ) → n < 32 → p < 16 → ((u : ℕ) → natAbs (S u) ≤ 5000000)
+      → netWith (net n (λ u. splitSigned (S u) 16 (w u)) p) (splitSigned (S n) 16 (w n) p) ≡ net (n + 1) (λ u. splitSigned (S u) 16 (w u)) p
   -- net × price × days; R and the sum of M; their product; what is left × obligations; dues
   pub priced-bound : (w price days : ℕ) → w ≤ 160000000 → price ≤ 50000 → days ≤ 366 → w * price * days ≤ 2928000000000000
   pub charges-bound : (N : ℕ → ℤ) (price days : ℕ) (o : ℕ → ℕ) → areaInRange N price days o ≡ true → charges N price days ≤ 2928000000

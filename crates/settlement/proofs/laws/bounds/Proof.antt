@@ -12,6 +12,7 @@ returns c =
       split-bound = bounds.split-bound;
       shortfalls-bound = bounds.shortfalls-bound;
       excesses-bound = bounds.excesses-bound;
+      net-steps = bounds.net-steps;
       priced-bound = bounds.priced-bound;
       charges-bound = bounds.charges-bound;
       ceilings-bound = bounds.ceilings-bound;
