@@ -1,7 +1,7 @@
 -- Laws of an area's money.
 use mathlib.Core.Path.{_≡_, refl, _∙_}
 use mathlib.Core.Bool.{Bool, true, false, and-true}
-use Prim.Native.Nat.{ℕ, _+_, _≤_, _<_, min}
+use Prim.Native.Nat.{ℕ, _+_, _≤_, min}
 use native.Mathlib.Nat.{le-refl}
 use native.Mathlib.Omega.{arith}
 use lib.IntN.{ℤ, pos}
@@ -16,9 +16,9 @@ use Rattle.settlement.proofs.SignedSums.{sum-differences, equal-differe
 use Rattle.settlement.proofs.Splits.{shares-add-up, shares-at-most, share-at-most-weight}
 
 module _ (N : ℕ → ℤ) (price days : ℕ) where
-  pub credit-at-most : (p : ℕ) → p < 16 → credit N price days p ≤ ceiling N price days p
+  pub credit-at-most : (p : ℕ) → credit N price days p ≤ ceiling N price days p
   unfolding credit ceilings
-  credit-at-most p h = go (ltb (charges N price days) (ceilings N price days)) refl
+  credit-at-most p = go (ltb (charges N price days) (ceilings N price days)) refl
     where
       go : (t : Bool) → ltb (charges N price days) (ceilings N price days) ≡ t → credit N price days p ≤ ceiling N price days p
       go true q = rw q (share-at-most-weight (charges N price days) 16 (ceiling N price days) p (omega (arith, ltb-true)))

@@ -73,7 +73,7 @@ net-steps n S w p few h each =
     let nets : ℕ → ℤ = net n (λ u. splitSigned (S u) 16 (w u)) in
     let so-far : natAbs (nets p) ≤ 160000000 = omega (arith, sum-term p 16 (λ k. natAbs (nets k)) h, sizes-bound n S w (omega arith) each) in
     let one-more : natAbs (splitSigned (S n) 16 (w n) p) ≤ 160000000 =
-          rw share-size (omega (arith, share-at-most (natAbs (S n)) 16 (w n) p h, each n)) in
+    rw share-size (omega (arith, share-at-most (natAbs (S n)) 16 (w n) p h, each n)) in
     simp (add-one, le-leb _ _ so-far, le-leb _ _ one-more)
 
 pub priced-bound : (w price days : ℕ) → w ≤ 160000000 → price ≤ 50000 → days ≤ 366 → w * price * days ≤ 2928000000000000

@@ -35,7 +35,7 @@ pub record ShortfallLaws : Type 0 where
 -- the money of an area
 pub record MoneyLaws : Type 0 where
   -- a credit is never above M, and the credits add up to the lower of R and the sum of M
-  pub credit-at-most : (N : ℕ → ℤ) (price days p : ℕ) → p < 16 → credit N price days p ≤ ceiling N price days p
+  pub credit-at-most : (N : ℕ → ℤ) (price days p : ℕ) → credit N price days p ≤ ceiling N price days p
   pub credits-add-up : (N : ℕ → ℤ) (price days : ℕ) → sumBelow 16 (credit N price days) ≡ min (charges N price days) (ceilings N price days)
   -- where refusal 11 does not fit, credits and load shares add up to R, so that the dues add up to 0
   pub paid-out : (N : ℕ → ℤ) (price days : ℕ) (o : ℕ → ℕ) → isUnplaced N price days o ≡ false
