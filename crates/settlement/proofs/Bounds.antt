@@ -11,7 +11,7 @@ use Rattle.calendar.specs.Sum.{sumBelow}
 use Rattle.calendar.proofs.Sums.{sum-term}
 use Rattle.settlement.specs.declared.capacity.UnitFacts.{UnitFacts}
 use Rattle.settlement.specs.Signed.{above, below, sumBelowℤ}
-use Rattle.settlement.specs.Capacity.{wattDays, committed, limitedShortfall, unitInRange}
+use Rattle.settlement.specs.Capacity.{wattDays, unitWattDays, committed, limitedShortfall, unitInRange}
 use Rattle.settlement.specs.Split.{split, splitSigned}
 use Rattle.settlement.specs.Shares.{net, netWith}
 use Rattle.settlement.specs.Money.{priced, charge, ceiling, charges, ceilings, credit, left, loadShare, due, areaInRange}
@@ -22,8 +22,8 @@ use Rattle.settlement.proofs.Capacities.{committed-at-most, limited-sho
 use Rattle.settlement.proofs.Balance.{credits-add-up}
 
 pub watt-days-bound : (n : ℕ) (watts first last : ℕ → ℕ) → n ≤ 64 → ((k : ℕ) → (watts k ≤ 5000000) × (last k ≤ 365))
-    → sumBelow n (λ k. wattDays (watts k) (first k) (last k)) ≤ 117120000000
-unfolding wattDays
+    → unitWattDays n (λ k. wattDays (watts k) (first k) (last k)) ≤ 117120000000
+unfolding wattDays unitWattDays
 watt-days-bound n watts first last few each =
     sum-bounded n 64 1830000000 _ few (λ k. mul-le-mul {n₂ = 5000000} {m₂ = 366} (each k .0) (omega (arith, each k .1)))
 

@@ -1,7 +1,7 @@
 -- Laws of T, of unforced watts, P and S, of the limit, and what the tests of ranges say.
-use mathlib.Core.Path.{_≡_, refl}
+use mathlib.Core.Path.{_≡_, refl, _∙_}
 use mathlib.Core.Bool.{Bool, true, false, cond, _&&_}
-use Prim.Native.Nat.{ℕ, suc, _+_, _-_, _*_, _≤_, max}
+use Prim.Native.Nat.{ℕ, suc, _+_, _-_, _*_, _<_, _≤_, max, zero-le}
 use native.Mathlib.Nat.{le-refl, le-trans, min-le-left, max-le, mul-le-mul-left, mul-comm, div-le-of-le-mul}
 use native.Mathlib.Omega.{arith}
 use lib.IntN.{ℤ, pos, negsuc, natAbs}
@@ -12,11 +12,18 @@ use Rattle.calendar.specs.Sum.{sumBelow}
 use Rattle.calendar.proofs.Tests.{within-from, within-to}
 use Rattle.settlement.specs.declared.capacity.UnitFacts.{UnitFacts}
 use Rattle.settlement.specs.Signed.{above, below}
-use Rattle.settlement.specs.Capacity.{committed, unforced, peakRated, available, quarters, limit, limited, unitShortfall, unitLimit, limitedShortfall}
-use Rattle.settlement.specs.Capacity.{ratesInRange, hoursInRange, unitInRange, yearInRange}
+use Rattle.settlement.specs.Capacity.{unitWattDays, partOf, wattDaysOf, committed, unforced, peakRated, available, quarters, limit, limited}
+use Rattle.settlement.specs.Capacity.{unitShortfall, unitLimit, limitedShortfall, ratesInRange, hoursInRange, unitInRange, yearInRange}
 use Rattle.settlement.specs.Money.{wattsInRange, areaInRange}
 use Rattle.settlement.proofs.Tests.{both-true}
+use Rattle.settlement.proofs.Sums.{sum-same, sum-exchange, sum-picked}
 use Rattle.settlement.proofs.Sizes.{difference-size}
+
+pub parts-add-up : (n : ℕ) (wd party : ℕ → ℕ) → ((k : ℕ) → k < n → party k < 16) → wattDaysOf (partOf n wd party) ≡ unitWattDays n wd
+unfolding wattDaysOf partOf unitWattDays
+parts-add-up n wd party known =
+    sum-exchange 16 n (λ p k. cond (eqb (party k) p) (wd k) 0)
+    ∙ sum-same n _ wd (λ k h. sum-picked 16 (party k) (wd k) (known k h))
 
 pub committed-at-most : (i e v days : ℕ) → committed i e v days ≤ i
 unfolding committed
@@ -42,14 +49,21 @@ available-at-most t i g sh foh d = go (eqb (sh + foh) 0) (ltb sh 50) (unforced-a
     go false true year peak = omega arith
     go false false year peak = peak
 
+pub under-limit : (l : ℕ) (s : ℤ) → above s ≤ l → limited l s ≡ s
+unfolding above limited
+under-limit l (pos s) h = simp (le-ltb l s h)
+under-limit l (negsuc x) h = refl
+
+above-le : (s : ℤ) (l : ℕ) → s ≤ℤ pos l → above s ≤ l
+unfolding above
+above-le (pos s) l h = leb→le s l (h .le)
+above-le (negsuc x) l h = zero-le
+
 pub not-above-untouched : (l : ℕ) (s : ℤ) → s ≤ℤ pos l → limited l s ≡ s
-unfolding limited
-not-above-untouched l (pos s) h = simp (le-ltb l s (leb→le s l (h .le)))
-not-above-untouched l (negsuc x) h = refl
+not-above-untouched l s h = under-limit l s (above-le s l h)
 
 pub excess-untouched : (l : ℕ) (s : ℤ) → s ≤ℤ pos 0 → limited l s ≡ s
-excess-untouched l (pos s) h = not-above-untouched l (pos s) (leZ-yes (le→leb s l (omega (arith, leb→le s 0 (h .le)))))
-excess-untouched l (negsuc x) h = not-above-untouched l (negsuc x) (leZ-yes tt)
+excess-untouched l s h = under-limit l s (omega (arith, above-le s 0 h))
 
 pub limited-at-most : (l : ℕ) (s : ℤ) → limited l s ≤ℤ pos l
 unfolding limited

@@ -1,11 +1,11 @@
 -- The formulas' values in range fit 64 bits, and each is what its definition says.
-use mathlib.Core.Path.{_≡_, refl}
+use mathlib.Core.Path.{_≡_}
 use mathlib.Core.Bool.{true}
 use Prim.Native.Nat.{ℕ, _+_, _-_, _*_, _/_, _≤_, _<_}
 use native.Mathlib.Nat.{le-trans, not-suc-le-zero, mul-pos, mul-le-mul, div-le-self}
 use native.Mathlib.Omega.{arith}
 use lib.IntN.{ℤ, pos, negsuc}
-use borrow.Author.Tests.{lt-ltb, le-ltb}
+use borrow.Author.Tests.{lt-ltb}
 use Rattle.settlement.specs.declared.capacity.UnitFacts.{UnitFacts}
 use Rattle.settlement.specs.Signed.{above}
 use Rattle.settlement.specs.Capacity.{limited, unitInRange}
@@ -60,16 +60,11 @@ committed-fits {e} {days} he from to =
 pub limit-fits : {u q : ℕ} → u ≤ 5000000 → q ≤ 4 → u * q ≤ 20000000
 limit-fits h k = mul-le-mul {n₂ = 5000000} {m₂ = 4} h k
 
--- a shortfall that is above the limit, and what is not
+-- a shortfall above the limit
 pub over-limit : (l : ℕ) (s : ℤ) → l < above s → limited l s ≡ pos l
 unfolding above limited
 over-limit l (pos s) h = simp (lt-ltb l s h)
 over-limit l (negsuc x) h = absurd (not-suc-le-zero h)
-
-pub under-limit : (l : ℕ) (s : ℤ) → above s ≤ l → limited l s ≡ s
-unfolding above limited
-under-limit l (pos s) h = simp (le-ltb l s h)
-under-limit l (negsuc x) h = refl
 
 pub record PricedFits (watts price days : ℕ) : Type 0 where
   pub once : watts * price ≤ 8000000000000

@@ -3,12 +3,10 @@ use mathlib.Core.Path.{_≡_, refl, sym, ap, _∙_}
 use mathlib.Core.List.{List}
 use mathlib.Core.Bool.{Bool, true, false, cond, _&&_}
 use Prim.Native.Nat.{ℕ, zero, suc, _+_, _-_, _*_, _^_, _≤_, _<_, min}
-use native.Mathlib.Nat.{sub-zero, zero-mul}
+use native.Mathlib.Nat.{zero-mul}
 use native.Mathlib.Omega.{arith}
-use lib.IntN.{ℤ, pos, negsuc, natAbs, negℤ, subℕ}
-use lib.Dec.{leb}
-use borrow.Author.Tests.{le-leb, lt-leb, leb-true, leb-false}
-use Rattle.calendar.specs.Range.{within}
+use lib.IntN.{ℤ, pos, negsuc, natAbs, subℕ}
+use borrow.Author.Tests.{le-leb, lt-leb}
 use Rattle.settlement.specs.declared.capacity.UnitFacts.{UnitFacts}
 use Rattle.settlement.specs.Lists.{listBelow, element}
 use Rattle.settlement.specs.Signed.{above, below}
@@ -18,28 +16,22 @@ use Rattle.settlement.specs.Split.{withSign, splitSigned}
 use Rattle.settlement.specs.Shares.{unitShare, sharesAnswer, netWith}
 use Rattle.settlement.proofs.Tests.{both-true}
 use Rattle.settlement.proofs.Lists.{list-same}
-use Rattle.settlement.proofs.Signs.{sub-positive, sub-negative}
+use Rattle.settlement.proofs.CappedSums.{capped-test}
 use Rattle.settlement.proofs.SignedSums.{signed-parts, add-differences}
 use Rattle.settlement.proofs.Splits.{no-amount}
 use Rattle.settlement.proofs.Capacities.{YearRange, ranges}
 use Rattle.settlement.proofs.Bounds.{split-bound}
 
-from-zero : (n : ℕ) → subℕ n 0 ≡ pos n
-from-zero n = sub-positive {a = n} {b = 0} (omega arith) ∙ ap pos (sub-zero n)
-
-to-zero : (n : ℕ) → subℕ 0 n ≡ negℤ (pos n)
-to-zero zero = refl
-to-zero (suc n) = sub-negative {a = 0} {b = suc n} (omega arith) ∙ ap (λ (k : ℕ). negℤ (pos k)) (sub-zero (suc n))
-
 pub sign-above : (z : ℤ) (n : ℕ) → below z ≡ 0 → subℕ n 0 ≡ withSign z n
-unfolding below withSign
-sign-above (pos a) n e = from-zero n
+unfolding above below withSign
+sign-above (pos a) n e = sym (signed-parts (pos n))
 sign-above (negsuc a) n e = absurd (omega arith)
 
 pub sign-below : (z : ℤ) (n : ℕ) → (below z ≡ 0 → ⊥) → subℕ 0 n ≡ withSign z n
-unfolding below withSign
+unfolding above below withSign
 sign-below (pos a) n e = absurd (e refl)
-sign-below (negsuc a) n e = to-zero n
+sign-below (negsuc a) zero e = refl
+sign-below (negsuc a) (suc n) e = sym (signed-parts (negsuc n))
 
 pub net-too-large : (n s : ℤ) → 160000000 < natAbs n → pos 0 ≡ netWith n s
 unfolding netWith
@@ -59,11 +51,7 @@ net-more n s h k =
 module _ (u : UnitFacts) (days t : ℕ) {v : ℕ} (isv : v ≡ min t (2 ^ 64 - 1)) where
   capped-range : yearInRange v days ≡ yearInRange t days
   unfolding yearInRange
-  capped-range = go (leb t 117120000000) refl
-    where
-      go : (b : Bool) → leb t 117120000000 ≡ b → (leb v 117120000000 && within 365 366 days) ≡ (leb t 117120000000 && within 365 366 days)
-      go true q = let same : v ≡ t = omega (arith, leb-true t 117120000000 q) in rw same
-      go false q = rw (q, lt-leb v 117120000000 (omega (arith, leb-false t 117120000000 q)))
+  capped-range = rw (capped-test t 117120000000 (omega arith) isv)
 
   pub capped-shortfall : shortfallAnswer u v days ≡ shortfallAnswer u t days
   unfolding shortfallAnswer

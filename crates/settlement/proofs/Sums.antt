@@ -1,8 +1,11 @@
 -- Laws of sums, beside those of the calendar.
-use mathlib.Core.Path.{_≡_, refl, sym}
+use mathlib.Core.Path.{_≡_, refl, sym, _∙_}
+use mathlib.Core.Bool.{Bool, true, false, cond}
 use Prim.Native.Nat.{ℕ, zero, suc, _+_, _*_, _≤_, _<_}
-use native.Mathlib.Nat.{le-refl, suc-mul, zero-mul, mul-le-mul-right}
+use native.Mathlib.Nat.{le-refl, not-suc-le-zero, suc-mul, zero-mul, mul-le-mul-right}
 use native.Mathlib.Omega.{arith}
+use lib.Dec.{eqb}
+use borrow.Author.Tests.{eqb-true, eqb-false, ne-eqb}
 use Rattle.calendar.specs.Sum.{sumBelow}
 
 -- terms that are the same have the same sum
@@ -39,3 +42,19 @@ sum-exchange (suc n) m f = rw (sum-exchange n m f) (sym (sum-add m (λ j. sumBel
 -- at most m terms of at most b each
 pub sum-bounded : (n m b : ℕ) (f : ℕ → ℕ) → n ≤ m → ((k : ℕ) → f k ≤ b) → sumBelow n f ≤ m * b
 sum-bounded n m b f few each = omega (arith, sum-at-most n f (λ k. b) (λ k h. each k), sum-fixed n b, mul-le-mul-right b few)
+
+-- of terms that are x at one number and 0 elsewhere, the sum is x
+pub sum-picked : (m i x : ℕ) → i < m → sumBelow m (λ j. cond (eqb i j) x 0) ≡ x
+unfolding sumBelow
+sum-picked zero i x h = absurd (not-suc-le-zero h)
+sum-picked (suc m) i x h = go (eqb i m) refl (sum-picked m i x)
+  where
+    before : (j : ℕ) → i ≡ m → j < m → cond (eqb i j) x 0 ≡ 0
+    before j e b = let other : (i ≡ j → ⊥) = λ p. omega arith in rw (ne-eqb i j other)
+
+    go : (t : Bool) → eqb i m ≡ t → (i < m → sumBelow m (λ j. cond (eqb i j) x 0) ≡ x) → sumBelow m (λ j. cond (eqb i j) x 0) + cond (eqb i m) x 0 ≡ x
+    go true q earlier =
+        let e : i ≡ m = eqb-true i m q in
+        let none : sumBelow m (λ j. cond (eqb i j) x 0) ≡ 0 = sum-same m _ (λ j. 0) (λ j b. before j e b) ∙ sum-none m in
+        rw q (omega arith)
+    go false q earlier = let ne : (i ≡ m → ⊥) = eqb-false i m q in rw q (omega (arith, earlier (omega arith)))

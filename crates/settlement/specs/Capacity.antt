@@ -13,7 +13,15 @@ use Rattle.settlement.specs.declared.capacity.UnitFacts.{UnitFacts}
 unfoldable pub wattDays : ℕ → ℕ → ℕ → ℕ
 wattDays watts first last = watts * (last - first + 1)
 
--- V: the sum over the unit's commitments, which stands here as the sum over the sixteen parties of their parts
+-- V: the sum over the unit's commitments 0 .. n − 1, wd k being the watt-days of number k
+unfoldable pub unitWattDays : ℕ → (ℕ → ℕ) → ℕ
+unitWattDays n wd = sumBelow n wd
+
+-- party p's part of V: the sum over those that are the party's
+unfoldable pub partOf : ℕ → (ℕ → ℕ) → (ℕ → ℕ) → ℕ → ℕ
+partOf n wd party p = sumBelow n (λ k. cond (eqb (party k) p) (wd k) 0)
+
+-- V from the sixteen parts, which is how the functions are given it; the law `parts-add-up` says that it is the same
 unfoldable pub wattDaysOf : (ℕ → ℕ) → ℕ
 wattDaysOf part = sumBelow 16 part
 

@@ -7,7 +7,7 @@ use lib.Signed.{_≤ℤ_}
 use Rattle.calendar.specs.Sum.{sumBelow}
 use Rattle.settlement.specs.declared.capacity.UnitFacts.{UnitFacts}
 use Rattle.settlement.specs.Signed.{above, below, sumBelowℤ}
-use Rattle.settlement.specs.Capacity.{wattDays, committed, available, limited, limitedShortfall, unitInRange}
+use Rattle.settlement.specs.Capacity.{wattDays, unitWattDays, partOf, wattDaysOf, committed, available, limited, limitedShortfall, unitInRange}
 use Rattle.settlement.specs.Split.{split, splitSigned}
 use Rattle.settlement.specs.Shares.{net, netWith}
 use Rattle.settlement.specs.Money.{ceiling, charges, ceilings, credit, left, loadShare, due, isUnplaced, areaInRange}
@@ -25,6 +25,8 @@ pub record SplitLaws : Type 0 where
 
 -- from a set to its shortfall
 pub record ShortfallLaws : Type 0 where
+  -- the sixteen parties' parts of V add up to V
+  pub parts-add-up : (n : ℕ) (wd party : ℕ → ℕ) → ((k : ℕ) → k < n → party k < 16) → wattDaysOf (partOf n wd party) ≡ unitWattDays n wd
   -- S after the limit is at most L; what is not above L, any excess with it, is untouched
   pub limited-at-most : (l : ℕ) (s : ℤ) → limited l s ≤ℤ pos l
   pub not-above-untouched : (l : ℕ) (s : ℤ) → s ≤ℤ pos l → limited l s ≡ s
@@ -46,7 +48,7 @@ pub record MoneyLaws : Type 0 where
 pub record Bounds : Type 0 where
   -- V of a unit with n commitments, and V × 100,000
   pub watt-days-bound : (n : ℕ) (watts first last : ℕ → ℕ) → n ≤ 64 → ((k : ℕ) → (watts k ≤ 5000000) × (last k ≤ 365))
-      → sumBelow n (λ k. wattDays (watts k) (first k) (last k)) ≤ 117120000000
+      → unitWattDays n (λ k. wattDays (watts k) (first k) (last k)) ≤ 117120000000
   pub committed-bound : (v : ℕ) → v ≤ 117120000000 → v * 100000 ≤ 11712000000000000
   -- T × (SH × I − D)
   pub rated-bound : (u : UnitFacts) (v days : ℕ) → unitInRange u ≡ true

@@ -19,7 +19,7 @@ ghost use Rattle.settlement.specs.Signed.{above, below};
 ghost use Rattle.settlement.specs.Quantities.{cents};
 ghost use Rattle.settlement.specs.Split.{split};
 ghost use Rattle.settlement.specs.Shares.{wattsOf};
-ghost use Rattle.settlement.specs.Money.{priced, charge, ceiling, centsOf, wattsInRange, areaInRange, settled, moneyAnswer};
+ghost use Rattle.settlement.specs.Money.{priced, centsOf, wattsInRange, areaInRange, settled, moneyAnswer};
 
 // What an area's nets, price and obligations come to: whether money is left over that no obligation takes, which is
 // refusal 11, and each party's due.

@@ -2,7 +2,8 @@ use mathlib.Core.Path.{sym, ap, _∙_}
 use native.Mathlib.Omega.{arith}
 use borrow.Author.Needs.{needs}
 use Rattle.settlement.specs.Quantities.{unforcedWatts}
-use Rattle.settlement.proofs.Formulas.{over-limit, under-limit}
+use Rattle.settlement.proofs.Capacities.{under-limit}
+use Rattle.settlement.proofs.Formulas.{over-limit}
 use Rattle.settlement.proofs.capacity.limited.Statement.{statement}
 use Rattle.settlement.proofs.capacity.limited.Tie as tie
 

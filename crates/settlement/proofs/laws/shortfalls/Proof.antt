@@ -1,10 +1,11 @@
-use Rattle.settlement.proofs.Capacities.{limited-at-most, not-above-untouched, excess-untouched, available-at-most}
+use Rattle.settlement.proofs.Capacities.{parts-add-up, limited-at-most, not-above-untouched, excess-untouched, available-at-most}
 use Rattle.settlement.proofs.laws.shortfalls.Statement.{statement}
 use Rattle.settlement.proofs.laws.shortfalls.Tie as tie
 
 returns : tie.Need-returns
 returns c =
     record {
+      parts-add-up = parts-add-up;
       limited-at-most = limited-at-most;
       not-above-untouched = not-above-untouched;
       excess-untouched = excess-untouched;
