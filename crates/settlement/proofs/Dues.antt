@@ -12,12 +12,12 @@ use Rattle.settlement.specs.declared.money.AreaMoney.{AreaMoney}
 use Rattle.settlement.specs.Lists.{listBelow, element}
 use Rattle.settlement.specs.Signed.{above, below}
 use Rattle.settlement.specs.Quantities.{cents}
-use Rattle.settlement.specs.Split.{firstShares, split}
+use Rattle.settlement.specs.Split.{split}
 use Rattle.settlement.specs.Money.{priced, charge, ceiling, charges, ceilings, credit, left, loadShare, due, isUnplaced, areaInRange, centsOf}
 use Rattle.settlement.proofs.Tests.{chosen, refused}
 use Rattle.settlement.proofs.Sums.{sum-same}
 use Rattle.settlement.proofs.Lists.{element-below, list-same, sum-filled}
-use Rattle.settlement.proofs.Splits.{shares-at-most}
+use Rattle.settlement.proofs.Splits.{split-same, shares-at-most}
 use Rattle.settlement.proofs.Balance.{credits-add-up}
 use Rattle.settlement.proofs.Bounds.{charges-bound}
 
@@ -42,12 +42,6 @@ amounts-sum f filled = sum-same 16 _ f (amount-at f filled)
 
 pub total-filled : (f : ℕ → ℕ) {l : List ℕ} {c : Cents} → l ≡ listBelow 16 f → c ≡ cents (pos (sumBelow 16 (element l))) → c ≡ cents (pos (sumBelow 16 f))
 total-filled f filled e = e ∙ ap (λ (n : ℕ). cents (pos n)) (sum-filled f filled)
-
--- a split goes by the weights that it reaches
-split-same : (a n : ℕ) (w v : ℕ → ℕ) → ((k : ℕ) → k < n → w k ≡ v k) → (k : ℕ) → k < n → split a n w k ≡ split a n v k
-unfolding split firstShares
-split-same a n w v same k h =
-    rw (sum-same (k + 1) w v (λ j b. same j (omega arith)), sum-same k w v (λ j b. same j (omega arith)), sum-same n w v same)
 
 pub money-same : {t u : Bool} {ds es : List Cents} → t ≡ u → ds ≡ es
     → _≡_ {A = AreaMoney} (record { unplaced = t; dues = ds }) (record { unplaced = u; dues = es })

@@ -14,3 +14,5 @@ pub mod Bounds
 pub mod Formulas
 pub mod Nets
 pub mod Dues
+pub mod Sixteen
+pub mod Lines

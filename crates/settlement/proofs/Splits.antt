@@ -11,6 +11,7 @@ use Rattle.calendar.specs.Sum.{sumBelow}
 use Rattle.calendar.proofs.Sums.{sum-one-more, sum-grows}
 use Rattle.settlement.specs.Signed.{above, below, sumBelowℤ}
 use Rattle.settlement.specs.Split.{firstShares, split, withSign, splitSigned}
+use Rattle.settlement.proofs.Sums.{sum-same}
 use Rattle.settlement.proofs.SignedSums.{above-negated, below-negated, one-side, signed-parts, signed-le, le-signed, sum-sameℤ, sum-differences}
 
 pub floor-grows : (x y z : ℕ) → x ≤ y → x / z ≤ y / z
@@ -56,6 +57,12 @@ shares-at-most a n w = rw (first-shares-add-up a n w n) (first-shares-at-most a 
 
 pub share-at-most : (a n : ℕ) (w : ℕ → ℕ) (k : ℕ) → k < n → split a n w k ≤ a
 share-at-most a n w k h = omega (arith, share-one-more a n w k, first-shares-at-most a n w (k + 1) (omega arith))
+
+-- a split goes by the weights that it reaches
+pub split-same : (a n : ℕ) (w v : ℕ → ℕ) → ((k : ℕ) → k < n → w k ≡ v k) → (k : ℕ) → k < n → split a n w k ≡ split a n v k
+unfolding split firstShares
+split-same a n w v same k h =
+    rw (sum-same (k + 1) w v (λ j b. same j (omega arith)), sum-same k w v (λ j b. same j (omega arith)), sum-same n w v same)
 
 pub no-weights : (a n : ℕ) (w : ℕ → ℕ) (k : ℕ) → sumBelow n w ≡ 0 → split a n w k ≡ 0
 unfolding split firstShares

@@ -3,7 +3,7 @@
 use mathlib.Core.Bool.{Bool, false, cond, _&&_}
 use mathlib.Core.List.{List}
 use Prim.Native.Nat.{ℕ, _+_, _-_, _*_, _/_}
-use lib.IntN.{ℤ, pos, subℕ}
+use lib.IntN.{ℤ, pos, natAbs, subℕ, _-ℤ_}
 use lib.Dec.{eqb, ltb, leb}
 use lib.ListN.{getD}
 use Rattle.calendar.specs.Sum.{sumBelow}
@@ -81,3 +81,16 @@ moneyAnswer nets price days obligations =
     cond (areaInRange (wattsOf nets) price days (element obligations))
     (settled (wattsOf nets) price days (element obligations))
     (record { unplaced = false; dues = listBelow 16 (λ p. cents (pos 0)) })
+
+-- The lines of a post. "Post gives all sixteen lines at once, each being due less the party's earlier lines in that area";
+-- `earlier` is the sum of the party's earlier lines there.
+unfoldable pub line : ℤ → ℤ → ℤ
+line due earlier = due -ℤ earlier
+
+-- What the public function answers. A due is at most 2,928,000,000 cents in size (the law `due-bound`), and so is the sum of
+-- earlier lines, which is an earlier due. Past that the line is 0.
+unfoldable pub lineAnswer : ℤ → ℤ → ℤ
+lineAnswer due earlier = cond (leb (natAbs due) 2928000000 && leb (natAbs earlier) 2928000000) (line due earlier) (pos 0)
+
+unfoldable pub linesAnswer : List Cents → List Cents → List Cents
+linesAnswer dues earlier = listBelow 16 (λ p. cents (lineAnswer (centsOf dues p) (centsOf earlier p)))

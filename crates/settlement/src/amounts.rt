@@ -43,6 +43,12 @@ pub fn cents_above(c: Cents) -> u64
     above(c.0)
 }
 
+pub fn cents_below(c: Cents) -> u64
+    ensures { λ r. ⌜ (r ≡ below (c .0)) × (r ≤ 2 ^ 63) ⌝ }
+{
+    below(c.0)
+}
+
 pub fn cents(c: u64) -> Cents
     requires { ⌜ c < 2 ^ 63 ⌝ }
     ensures { λ r. ⌜ r ≡ cents (pos c) ⌝ }

@@ -1,6 +1,7 @@
 // Settlement: from a set to its shortfall, the split, and area money.
 ghost use mathlib.Core.Path.{_≡_};
-ghost use Rattle.settlement.specs.Quantities.{installedWatts};
+ghost use lib.IntN.{pos};
+ghost use Rattle.settlement.specs.Quantities.{installedWatts, cents};
 
 // The quantities have a type each. Their fields are private to this crate, so that no other can make one of another.
 
@@ -19,6 +20,12 @@ impl InstalledWatts {
     {
         Self(watts)
     }
+
+    pub fn watts(self) -> u64
+        ensures { λ r. ⌜ r ≡ self .0 ⌝ }
+    {
+        self.0
+    }
 }
 
 impl UnforcedWatts {
@@ -30,6 +37,12 @@ impl UnforcedWatts {
 }
 
 impl Cents {
+    pub fn zero() -> Self
+        ensures { λ r. ⌜ r ≡ cents (pos 0) ⌝ }
+    {
+        Self(0)
+    }
+
     pub fn amount(self) -> i64
         ensures { λ r. ⌜ r ≡ self .0 ⌝ }
     {

@@ -1,8 +1,9 @@
-// Area money: from the parties' nets to their dues.
+// Area money: from the parties' nets to their dues, and the lines of a post.
 use crate::Cents;
 use crate::UnforcedWatts;
 use crate::amounts::cents;
 use crate::amounts::cents_above;
+use crate::amounts::cents_below;
 use crate::amounts::cents_difference;
 use crate::amounts::watts_above;
 use crate::amounts::watts_below;
@@ -11,7 +12,7 @@ use crate::split::split_by_party;
 ghost use mathlib.Core.Path.{_≡_};
 ghost use mathlib.Core.Bool.{true, cond, _&&_};
 ghost use Prim.Native.Nat.{_+_, _-_, _*_, _^_, _≤_, _<_};
-ghost use lib.IntN.{pos, subℕ};
+ghost use lib.IntN.{pos, subℕ, natAbs};
 ghost use lib.Dec.{ltb, eqb};
 ghost use Rattle.calendar.specs.Sum.{sumBelow};
 ghost use Rattle.settlement.specs.Lists.{listBelow, element};
@@ -19,7 +20,7 @@ ghost use Rattle.settlement.specs.Signed.{above, below};
 ghost use Rattle.settlement.specs.Quantities.{cents};
 ghost use Rattle.settlement.specs.Split.{split};
 ghost use Rattle.settlement.specs.Shares.{wattsOf};
-ghost use Rattle.settlement.specs.Money.{priced, centsOf, wattsInRange, areaInRange, settled, moneyAnswer};
+ghost use Rattle.settlement.specs.Money.{priced, centsOf, wattsInRange, areaInRange, settled, moneyAnswer, lineAnswer, linesAnswer};
 
 // What an area's nets, price and obligations come to: whether money is left over that no obligation takes, which is
 // refusal 11, and each party's due.
@@ -240,4 +241,43 @@ pub fn area_money(
         unplaced: false,
         dues: [Cents(0); 16],
     }
+}
+
+const DUE_MOST: u64 = 2_928_000_000;
+
+fn size_of(c: Cents) -> u64
+    ensures { λ r. ⌜ (r ≡ natAbs (c .0)) × (r ≤ 2 ^ 63) ⌝ }
+{
+    cents_above(c) + cents_below(c)
+}
+
+// due − earlier
+fn line(due: Cents, earlier: Cents) -> Cents
+    ensures { λ r. ⌜ r ≡ cents (lineAnswer (due .0) (earlier .0)) ⌝ }
+{
+    if DUE_MOST < size_of(due) {
+        return cents(0);
+    }
+    if DUE_MOST < size_of(earlier) {
+        return cents(0);
+    }
+    cents_difference(
+        cents_above(due) + cents_below(earlier),
+        cents_below(due) + cents_above(earlier),
+    )
+}
+
+// The sixteen lines of a post, from the dues and the sums of the parties' earlier lines in the area.
+pub fn lines(dues: [Cents; 16], earlier: [Cents; 16]) -> [Cents; 16]
+    ensures { λ r. ⌜ r ≡ linesAnswer dues earlier ⌝ }
+{
+    let mut lines = [Cents(0); 16];
+    let mut p = 0;
+    while p < 16 {
+        let due = dues[p];
+        let before = earlier[p];
+        lines[p] = line(due, before);
+        p += 1;
+    }
+    lines
 }

@@ -1,0 +1,5 @@
+pub mod Units
+pub mod AreaNets
+pub mod AreaMoney
+pub mod Loops
+pub mod Soundness

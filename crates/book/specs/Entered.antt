@@ -1,0 +1,109 @@
+-- What a string is answered with, and the book after it. 01, Places of refusal, Hours and Area money.
+use mathlib.Core.Bool.{cond}
+use mathlib.Core.List.{List, [], _∷_}
+use Prim.Native.Nat.{ℕ, _+_, _*_, _/_, _%_}
+use lib.IntN.{pos}
+use lib.Dec.{eqb}
+use lib.ListN.{getD, set}
+use Rattle.settlement.specs.declared.Cents.{Cents}
+use Rattle.settlement.specs.declared.UnforcedWatts.{UnforcedWatts}
+use Rattle.settlement.specs.Lists.{listBelow}
+use Rattle.settlement.specs.Quantities.{cents}
+use Rattle.settlement.specs.Capacity.{wattDays}
+use Rattle.settlement.specs.Shares.{sharesAnswer, netsAnswer}
+use Rattle.settlement.specs.Money.{line}
+use Rattle.records.specs.declared.format.CommitmentRecord.{CommitmentRecord}
+use Rattle.records.specs.declared.format.UnitRecord.{UnitRecord}
+use Rattle.records.specs.declared.format.HourRecord.{HourRecord}
+use Rattle.records.specs.declared.format.Record.{Record}
+use Rattle.records.specs.declared.format.Record.the-variants.{Unframed, Year, Area, Unit, Commitment, Hour, Load, Post}
+use Rattle.records.specs.Decoded.{decoded}
+use Rattle.records.specs.Kinds.{ofPost}
+use Rattle.records.specs.Hours.{hourIndex, serviceHour, outageHour, deratedWatts}
+use Rattle.records.specs.Dues.{partFor, dueIn, unplacedIn}
+use Rattle.records.specs.Rules.{place, refusal}
+use Rattle.book.specs.declared.Unit as unit
+use Rattle.book.specs.declared.Book.{Book}
+use Rattle.book.specs.declared.Answer.{Answer}
+use Rattle.book.specs.Books.{factsOf, figuresOf, factsOfBook, noEntry, areaParty, postedIn}
+
+-- a unit as it is entered, without hours
+abbrev pub newUnit : UnitRecord → unit.Unit
+newUnit r = record { entry = r; sh = 0; foh = 0; d = 0; last = 0 }
+
+-- a unit with one accepted Hour record more; an hour that isn't peak only moves the last hour
+unfoldable pub withHour : ℕ → unit.Unit → HourRecord → unit.Unit
+withHour y u h = record {
+    entry = u .entry; sh = u .sh + serviceHour y h; foh = u .foh + outageHour y h; d = u .d + deratedWatts y h; last = hourIndex y h }
+
+-- posted sums after a post of area a: place k is area k / 16's, party k % 16's, and its lines there now add up to its due
+unfoldable pub postedAfter : Book → ℕ → List Cents
+postedAfter b a = listBelow 128 (λ k. cond (eqb (k / 16) a) (cents (dueIn (factsOfBook b) a (k % 16))) (getD (b .posted) k (cents (pos 0))))
+
+-- a Post changes only the posted sums
+abbrev pub afterPost : Book → ℕ → Book
+afterPost b a = record {
+    year = b .year; areas = b .areas; units = b .units; commitments = b .commitments; obligations = b .obligations;
+    posted = postedAfter b a }
+
+-- the book after an accepted record
+abbrev pub after : Book → Record → Book
+after b (Unframed f) = b
+after b (Year y) = record { year = y; areas = b .areas; units = b .units; commitments = b .commitments; obligations = b .obligations; posted = b .posted }
+after b (Area r) = record {
+    year = b .year; areas = set (b .areas) (place 8 (r .area)) r; units = b .units; commitments = b .commitments;
+    obligations = b .obligations; posted = b .posted }
+after b (Unit r) = record {
+    year = b .year; areas = b .areas; units = set (b .units) (place 32 (r .unit)) (newUnit r); commitments = b .commitments;
+    obligations = b .obligations; posted = b .posted }
+after b (Commitment r) = record {
+    year = b .year; areas = b .areas; units = b .units; commitments = set (b .commitments) (place 64 (r .number)) r;
+    obligations = b .obligations; posted = b .posted }
+after b (Hour r) = record {
+    year = b .year; areas = b .areas;
+    units = set (b .units) (place 32 (r .unit)) (withHour (b .year) (getD (b .units) (place 32 (r .unit)) noEntry) r);
+    commitments = b .commitments; obligations = b .obligations; posted = b .posted }
+after b (Load r) = record {
+    year = b .year; areas = b .areas; units = b .units; commitments = b .commitments;
+    obligations = set (b .obligations) (areaParty (place 8 (r .area)) (place 16 (r .party))) (r .obligation); posted = b .posted }
+after b (Post a) = afterPost b (place 8 a)
+
+-- sixteen zero lines
+abbrev pub noLines : List Cents
+noLines = listBelow 16 (λ p. cents (pos 0))
+
+-- the lines of a post of area a: each the due less the party's earlier lines there
+unfoldable pub postLines : Book → ℕ → List Cents
+postLines b a = listBelow 16 (λ p. cents (line (dueIn (factsOfBook b) a p) (postedIn (b .posted) a p)))
+
+-- only a Post has lines other than zero
+abbrev pub linesOf : Book → Record → List Cents
+linesOf b r = ofPost noLines (λ a. postLines b (place 8 a)) r
+
+abbrev pub answer : ℕ → List Cents → Book → Answer
+answer number lines book = record { number = number; lines = lines; book = book }
+
+-- Steps of a post: what a commitment adds to party p's part of unit u's V, and an area's nets with unit k's shares.
+unfoldable pub commitmentPart : CommitmentRecord → ℕ → ℕ → ℕ
+commitmentPart c u p = cond (eqb (c .party) (p + 1)) (cond (eqb (c .unit) (u + 1)) (wattDays (c .watts) (c .first) (c .last)) 0) 0
+
+unfoldable pub netsWith : List UnforcedWatts → unit.Unit → ℕ → List CommitmentRecord → ℕ → ℕ → List UnforcedWatts
+netsWith nets u k commitments a days =
+    cond (eqb (u .entry .area) (a + 1))
+    (netsAnswer nets (sharesAnswer (figuresOf u) (listBelow 16 (partFor (factsOf 0 [] [] commitments []) k)) days))
+    nets
+
+-- a post of area a, where rows 1 to 10 do not fit: row 11, or the lines and the posted sums
+unfoldable pub postAnswer : Book → ℕ → Answer
+postAnswer b a = cond (unplacedIn (factsOfBook b) a) (answer 11 noLines b) (answer 0 (postLines b a) (afterPost b a))
+
+-- A string's answer: the number of its refusal with sixteen zero lines and the same book; where no row fits, 0, the lines of
+-- its kind, and the book after it.
+unfoldable pub entered : Book → List ℕ → Answer
+entered b s =
+    cond (eqb (refusal (factsOfBook b) s) 0) (answer 0 (linesOf b (decoded s)) (after b (decoded s))) (answer (refusal (factsOfBook b) s) noLines b)
+
+-- the book after a list of strings, each entered in turn
+abbrev pub bookAfter : Book → List (List ℕ) → Book
+bookAfter b [] = b
+bookAfter b (s ∷ ss) = bookAfter (entered b s .book) ss

@@ -1,0 +1,236 @@
+-- The worked example of 01, The ledger program: its facts, nets and dues.
+use mathlib.Core.Path.{_≡_, refl, sym, ap, _∙_}
+use mathlib.Core.Bool.{true, false, cond}
+use mathlib.Core.List.{List, [], _∷_}
+use Prim.Native.Nat.{ℕ, zero, suc, _+_, _<_}
+use native.Mathlib.Omega.{arith}
+use lib.IntN.{ℤ, pos, negℤ, _+ℤ_, +ℤ-idr}
+use lib.Dec.{eqb}
+use lib.ListN.{getD}
+use borrow.Author.Tests.{ne-eqb}
+use Rattle.calendar.specs.Sum.{sumBelow}
+use Rattle.calendar.specs.Range.{within}
+use Rattle.calendar.specs.Gregorian.{leapYear}
+use Rattle.calendar.specs.DeliveryYear.{deliveryDays}
+use Rattle.settlement.specs.declared.capacity.UnitFacts.{UnitFacts}
+use Rattle.settlement.specs.Lists.{listBelow, element}
+use Rattle.settlement.specs.Signed.{above, below, sumBelowℤ}
+use Rattle.settlement.specs.Quantities.{installedWatts}
+use Rattle.settlement.specs.Capacity.{wattDays, partOf, wattDaysOf, committed, unforced, available, quarters, limit, limited}
+use Rattle.settlement.specs.Capacity.{unitShortfall, unitLimit, limitedShortfall}
+use Rattle.settlement.specs.Split.{firstShares, split, withSign, splitSigned}
+use Rattle.settlement.specs.Shares.{unitShare, net}
+use Rattle.settlement.specs.Money.{priced, charge, ceiling, charges, ceilings, credit, left, loadShare, due, isUnplaced, line}
+use Rattle.settlement.proofs.Lists.{element-below, list-same}
+use Rattle.settlement.proofs.Sixteen.{shares-same, due-same, unplaced-same}
+use Rattle.records.specs.declared.format.AreaRecord.{AreaRecord}
+use Rattle.records.specs.declared.format.UnitRecord.{UnitRecord}
+use Rattle.records.specs.declared.format.CommitmentRecord.{CommitmentRecord}
+use Rattle.records.specs.declared.format.LoadRecord.{LoadRecord}
+use Rattle.records.specs.declared.format.Record.{Record}
+use Rattle.records.specs.declared.format.Record.the-variants.{Year, Area, Unit, Commitment, Load, Post}
+use Rattle.records.specs.Facts.{Facts, noArea, noUnit, noCommitment}
+use Rattle.records.specs.Refusal.{refusalOf}
+use Rattle.records.specs.Rules.{asked}
+use Rattle.records.specs.Dues.{unitFacts, wattDaysFor, partFor, shareIn, netIn, dueIn, unplacedIn}
+use Rattle.promise.specs.Reckoning.{yearOf, latestArea, unitOf, latestCommitment, latestObligation, hoursOf, sumOver, lastIndex, factsOfList}
+use Rattle.promise.specs.Reckoning.{reckonedDue, reckonedPaid, reckonedLine}
+use Rattle.promise.specs.Figures.{noLines, firstLines}
+
+-- the records of the strings
+abbrev pub area₁ : AreaRecord
+area₁ = record { area = 1; price = 9000 }
+
+abbrev pub unit₁ : UnitRecord
+unit₁ = record { unit = 1; area = 1; installed = installedWatts 4500000; e = 30000; f = 5000; g = 15000; class = 0 }
+
+abbrev pub unit₂ : UnitRecord
+unit₂ = record { unit = 2; area = 1; installed = installedWatts 1000000; e = 0; f = 10000; g = 0; class = 0 }
+
+abbrev pub commitment₁ : CommitmentRecord
+commitment₁ = record { number = 1; unit = 1; party = 5; first = 0; last = 364; watts = 4000000 }
+
+abbrev pub commitment₂ : CommitmentRecord
+commitment₂ = record { number = 2; unit = 2; party = 6; first = 0; last = 364; watts = 1000000 }
+
+abbrev pub load₅ : LoadRecord
+load₅ = record { area = 1; party = 5; obligation = 500000 }
+
+abbrev pub load₇ : LoadRecord
+load₇ = record { area = 1; party = 7; obligation = 600000 }
+
+abbrev pub unloaded : List Record
+unloaded = Commitment commitment₂ ∷ Commitment commitment₁ ∷ Unit unit₂ ∷ Unit unit₁ ∷ Area area₁ ∷ Year 2010 ∷ []
+
+abbrev pub loaded : List Record
+loaded = Load load₇ ∷ Load load₅ ∷ unloaded
+
+-- The facts of these lists, whatever the obligations. Computing row j at one go takes far too long; these facts, the nets
+-- and the dues are each written out and computed from what comes before.
+abbrev example : (ℕ → ℕ → ℕ) → Facts
+example o = record {
+  year = 2010;
+  area = λ k. cond (eqb 1 (k + 1)) area₁ noArea;
+  unit = λ k. cond (eqb 2 (k + 1)) unit₂ (cond (eqb 1 (k + 1)) unit₁ noUnit);
+  commitment = λ k. cond (eqb 2 (k + 1)) commitment₂ (cond (eqb 1 (k + 1)) commitment₁ noCommitment);
+  obligation = o;
+  sh = λ u. 0;
+  foh = λ u. 0;
+  d = λ u. 0;
+  last = λ u. 0;
+}
+
+facts-unloaded : factsOfList unloaded ≡ example (λ a p. 0)
+unfolding factsOfList yearOf latestArea unitOf latestCommitment latestObligation hoursOf sumOver lastIndex
+facts-unloaded = refl
+
+facts-loaded : factsOfList loaded ≡ example (latestObligation loaded)
+unfolding factsOfList yearOf latestArea unitOf latestCommitment latestObligation hoursOf sumOver lastIndex
+facts-loaded = refl
+
+-- a Post changes no fact
+post-keeps : (n : ℕ) (acc : List Record) → factsOfList (Post n ∷ acc) ≡ factsOfList acc
+unfolding factsOfList yearOf latestArea unitOf latestCommitment latestObligation hoursOf
+post-keeps n acc = refl
+
+-- sums of which only the first two terms are other than 0
+sum-of-two : (n : ℕ) (f : ℕ → ℕ) → ((k : ℕ) → f (suc (suc k)) ≡ 0) → sumBelow (suc (suc n)) f ≡ f 0 + f 1
+unfolding sumBelow
+sum-of-two zero f none = omega arith
+sum-of-two (suc n) f none = omega (arith, sum-of-two n f none, none n)
+
+sum-of-twoℤ : (n : ℕ) (f : ℕ → ℤ) → ((k : ℕ) → f (suc (suc k)) ≡ pos 0) → sumBelowℤ (suc (suc n)) f ≡ sumBelowℤ 2 f
+unfolding sumBelowℤ
+sum-of-twoℤ zero f none = refl
+sum-of-twoℤ (suc n) f none = rw (none n, +ℤ-idr (sumBelowℤ (suc (suc n)) f)) (sum-of-twoℤ n f none)
+
+-- party p's amount of a list
+abbrev amountOf : List ℤ → ℕ → ℤ
+amountOf l p = getD l p (pos 0)
+
+-- what the elements of a list are, the list being known
+by-list : {A : Type 0} (n : ℕ) (f : ℕ → A) (l : List A) (d : A) → listBelow n f ≡ l → (k : ℕ) → k < n → f k ≡ getD l k d
+by-list n f l d e k h = sym (element-below n f k d h) ∙ ap (λ x. getD x k d) e
+
+-- what the two units' shortfalls are worked out from, no hours being entered
+abbrev facts₁ : UnitFacts
+facts₁ = unitFacts (example (λ a p. 0)) 0
+
+abbrev facts₂ : UnitFacts
+facts₂ = unitFacts (example (λ a p. 0)) 1
+
+abbrev obligations : List ℕ
+obligations = 0 ∷ 0 ∷ 0 ∷ 0 ∷ 500000 ∷ 0 ∷ 600000 ∷ 0 ∷ 0 ∷ 0 ∷ 0 ∷ 0 ∷ 0 ∷ 0 ∷ 0 ∷ 0 ∷ []
+
+obligations-listed : listBelow 16 (latestObligation loaded 0) ≡ obligations
+unfolding listBelow latestObligation
+obligations-listed = refl
+
+-- parties 5 and 6 have all of a unit each
+abbrev parts : ℕ → ℕ → ℕ → ℕ
+parts v₅ v₆ p = cond (eqb 5 (p + 1)) v₅ 0 + cond (eqb 6 (p + 1)) v₆ 0
+
+abbrev nets : List ℤ
+nets =
+    pos 0 ∷ pos 0 ∷ pos 0 ∷ pos 0 ∷ pos 450000 ∷ negℤ (pos 100000) ∷ pos 0 ∷ pos 0
+    ∷ pos 0 ∷ pos 0 ∷ pos 0 ∷ pos 0 ∷ pos 0 ∷ pos 0 ∷ pos 0 ∷ pos 0 ∷ []
+
+-- the shares of the two units, added up
+abbrev added : ℕ → ℤ
+added p = (pos 0 +ℤ unitShare facts₁ (parts 1460000000 0) 365 p) +ℤ unitShare facts₂ (parts 0 365000000) 365 p
+
+nets-listed : listBelow 16 added ≡ nets
+unfolding listBelow sumBelow unitShare wattDaysOf limitedShortfall unitLimit unitShortfall limited limit quarters available unforced committed
+    splitSigned withSign split firstShares
+nets-listed = refl
+
+dues-listed : listBelow 16 (due (amountOf nets) 9000 365 (element obligations)) ≡ firstLines
+unfolding listBelow sumBelow above below priced charge ceiling charges ceilings credit left loadShare due split firstShares
+dues-listed = refl
+
+placed : isUnplaced (amountOf nets) 9000 365 (element obligations) ≡ false
+unfolding sumBelow above below priced charge ceiling charges ceilings left isUnplaced
+placed = refl
+
+not-placed : isUnplaced (amountOf nets) 9000 365 (λ p. 0) ≡ true
+unfolding sumBelow above below priced charge ceiling charges ceilings left isUnplaced
+not-placed = refl
+
+module _ (o : ℕ → ℕ → ℕ) where
+  no-unit : (k : ℕ) → example o .unit (suc (suc k)) ≡ noUnit
+  no-unit k = rw (ne-eqb 2 (suc (suc k) + 1) (λ e. omega arith), ne-eqb 1 (suc (suc k) + 1) (λ e. omega arith))
+
+  no-commitment : (k : ℕ) → example o .commitment (suc (suc k)) ≡ noCommitment
+  no-commitment k = rw (ne-eqb 2 (suc (suc k) + 1) (λ e. omega arith), ne-eqb 1 (suc (suc k) + 1) (λ e. omega arith))
+
+  part-first : (p : ℕ) → partFor (example o) 0 p ≡ parts 1460000000 0 p
+  unfolding partFor partOf wattDaysFor wattDays
+  part-first p = sum-of-two 62 _ (λ k. rw (no-commitment k, ne-eqb 0 (p + 1) (λ e. omega arith)))
+
+  part-second : (p : ℕ) → partFor (example o) 1 p ≡ parts 0 365000000 p
+  unfolding partFor partOf wattDaysFor wattDays
+  part-second p = sum-of-two 62 _ (λ k. rw (no-commitment k, ne-eqb 0 (p + 1) (λ e. omega arith)))
+
+  net-of-two : (p : ℕ) → p < 16 → netIn (example o) 0 p ≡ added p
+  unfolding netIn net shareIn sumBelowℤ deliveryDays leapYear
+  net-of-two p h =
+      sum-of-twoℤ 30 (λ u. shareIn (example o) 0 u p) (λ k. rw (no-unit k))
+      ∙ rw (
+        shares-same facts₁ _ (parts 1460000000 0) 365 (λ q b. part-first q) p h,
+        shares-same facts₂ _ (parts 0 365000000) 365 (λ q b. part-second q) p h,
+      )
+
+  nets-are : (p : ℕ) → p < 16 → netIn (example o) 0 p ≡ amountOf nets p
+  nets-are p h = net-of-two p h ∙ by-list 16 added nets (pos 0) nets-listed p h
+
+-- the dues with both Loads; with them no money is left over unplaced, without them some is
+dues-are : (p : ℕ) → p < 16 → reckonedDue loaded 0 p ≡ amountOf firstLines p
+unfolding reckonedDue dueIn deliveryDays leapYear
+dues-are p h =
+    ap (λ (F : Facts). dueIn F 0 p) facts-loaded
+    ∙ due-same (netIn (example (latestObligation loaded)) 0) (amountOf nets) 9000 365 (latestObligation loaded 0) (element obligations)
+    (nets-are (latestObligation loaded)) (by-list 16 _ obligations 0 obligations-listed) p h
+    ∙ by-list 16 _ firstLines (pos 0) dues-listed p h
+
+placed-loaded : unplacedIn (example (latestObligation loaded)) 0 ≡ false
+unfolding unplacedIn deliveryDays leapYear
+placed-loaded =
+    unplaced-same (netIn (example (latestObligation loaded)) 0) (amountOf nets) 9000 365 (latestObligation loaded 0) (element obligations)
+    (nets-are (latestObligation loaded)) (by-list 16 _ obligations 0 obligations-listed)
+    ∙ placed
+
+unplaced-unloaded : unplacedIn (example (λ a p. 0)) 0 ≡ true
+unfolding unplacedIn deliveryDays leapYear
+unplaced-unloaded =
+    unplaced-same (netIn (example (λ a p. 0)) 0) (amountOf nets) 9000 365 (λ p. 0) (λ p. 0) (nets-are (λ a p. 0)) (λ p h. refl)
+    ∙ not-placed
+
+-- the number of Post 1
+post-loaded : refusalOf (asked (example (latestObligation loaded)) (Post 1)) (Post 1) ≡ 0
+unfolding within refusalOf
+post-loaded = rw placed-loaded
+
+post-unloaded : refusalOf (asked (example (λ a p. 0)) (Post 1)) (Post 1) ≡ 11
+unfolding within refusalOf
+post-unloaded = rw unplaced-unloaded
+
+pub first-number : refusalOf (asked (factsOfList loaded) (Post 1)) (Post 1) ≡ 0
+first-number = rw facts-loaded post-loaded
+
+pub second-number : refusalOf (asked (factsOfList (Post 1 ∷ loaded)) (Post 1)) (Post 1) ≡ 0
+second-number = rw (post-keeps 1 loaded, facts-loaded) post-loaded
+
+pub unloaded-number : refusalOf (asked (factsOfList unloaded) (Post 1)) (Post 1) ≡ 11
+unloaded-number = rw facts-unloaded post-unloaded
+
+-- its lines, the first time and the second
+pub first-lines : listBelow 16 (reckonedLine loaded 0) ≡ firstLines
+unfolding listBelow reckonedLine reckonedPaid line
+first-lines = list-same 16 (reckonedLine loaded 0) (λ p. line (amountOf firstLines p) (pos 0)) (λ p h. rw (dues-are p h)) ∙ refl
+
+pub second-lines : listBelow 16 (reckonedLine (Post 1 ∷ loaded) 0) ≡ noLines
+unfolding listBelow reckonedLine reckonedPaid reckonedDue line
+second-lines =
+    list-same 16 (reckonedLine (Post 1 ∷ loaded) 0) (λ p. line (amountOf firstLines p) (amountOf firstLines p))
+    (λ p h. rw (post-keeps 1 loaded, dues-are p h))
+    ∙ refl

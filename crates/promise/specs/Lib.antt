@@ -1,0 +1,2 @@
+pub mod Reckoning
+pub mod Figures

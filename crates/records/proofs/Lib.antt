@@ -1,0 +1,4 @@
+pub mod Tests
+pub mod Frames
+pub mod Numbers
+pub mod Named

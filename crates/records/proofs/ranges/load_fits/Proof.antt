@@ -1,0 +1,41 @@
+use borrow.Author.Needs.{needs}
+use Rattle.records.specs.Refusal.{loadFits}
+use Rattle.records.proofs.Tests.{dropped, kept}
+use Rattle.records.proofs.ranges.load_fits.Statement.{statement}
+use Rattle.records.proofs.ranges.load_fits.Tie as tie
+
+is-area-requires : tie.Need-is-area-requires
+is-area-requires c κs = search needs
+
+returns : tie.Need-returns
+unfolding loadFits
+returns c = simp (dropped (c .before .is-area .ensures) (c .if1 .taken))
+
+is-party-requires : tie.Need-is-party-requires
+is-party-requires c κs = search needs
+
+returns-2 : tie.Need-returns-2
+unfolding loadFits
+returns-2 c = simp (dropped (c .before .is-party .ensures) (c .if2 .taken), kept (c .before .before .before .is-area .ensures) (c .before .before .if1 .left))
+
+cast-within : tie.Need-cast-within
+cast-within c = search needs
+
+within-requires : tie.Need-within-requires
+within-requires c κs = search needs
+
+returns-3 : tie.Need-returns-3
+unfolding loadFits
+returns-3 c = simp (c .within .ensures, kept (c .before .before .before .is-party .ensures) (c .before .before .if2 .left), kept (c .before .before .before .before .before .is-area .ensures) (c .before .before .before .before .if1 .left))
+
+pub load-fits-spec : {M : Type 1} → statement M
+load-fits-spec =
+    tie.close
+    (tie.spec
+    is-area-requires
+    returns
+    is-party-requires
+    returns-2
+    cast-within
+    within-requires
+    returns-3)

@@ -1,0 +1,9 @@
+pub mod Format
+pub mod Decoded
+pub mod Kinds
+pub mod Hours
+pub mod Refusal
+pub mod Facts
+pub mod Dues
+pub mod Rules
+pub mod Stream

@@ -1,0 +1,185 @@
+// The rows of refusal, over what they ask beyond the record.
+use crate::format::AreaRecord;
+use crate::format::CommitmentRecord;
+use crate::format::Fault;
+use crate::format::HourRecord;
+use crate::format::LoadRecord;
+use crate::format::Record;
+use crate::format::UnitRecord;
+use crate::hour::hour_index;
+use crate::ranges::area_fits;
+use crate::ranges::commitment_fits;
+use crate::ranges::hour_fits;
+use crate::ranges::is_area;
+use crate::ranges::load_fits;
+use crate::ranges::unit_fits;
+use calendar::range::within;
+use settlement::InstalledWatts;
+ghost use mathlib.Core.Path.{_≡_};
+ghost use mathlib.Core.Bool.{_&&_};
+ghost use lib.Dec.{eqb, leb};
+ghost use Rattle.records.specs.declared.format.Record.the-variants.{Year, Area, Unit, Commitment, Hour, Load, Post};
+ghost use Rattle.records.specs.Decoded.{faultNumber};
+ghost use Rattle.records.specs.Refusal.{refusalOf};
+
+// What the rows ask, of the area and the unit that a record names.
+pub struct Asked {
+    // 0 before a year is entered.
+    pub year: u32,
+    // Whether the area and the unit are entered.
+    pub area: bool,
+    pub unit: bool,
+    // The unit's installed capacity.
+    pub installed: InstalledWatts,
+    // The index of its last accepted hour; 0 where it has none.
+    pub last: u64,
+    // Of a Post: whether money is left over and the area's obligations add up to 0.
+    pub unplaced: bool,
+}
+
+fn fault(f: Fault) -> u32
+    ensures { λ r. ⌜ r ≡ faultNumber f ⌝ }
+{
+    match f {
+        Fault::Broken => 1,
+        Fault::UnknownTag => 2,
+        Fault::WrongLength => 3,
+    }
+}
+
+fn year(a: Asked, y: u32) -> u32
+    ensures { λ r. ⌜ r ≡ refusalOf a (Year y) ⌝ }
+{
+    if a.year != 0 {
+        return 5;
+    }
+    if !within(2007, 2099, y as u64) {
+        return 6;
+    }
+    0
+}
+
+fn area(a: Asked, r: AreaRecord) -> u32
+    ensures { λ n. ⌜ n ≡ refusalOf a (Area r) ⌝ }
+{
+    if a.year == 0 {
+        return 4;
+    }
+    if !area_fits(r) {
+        return 6;
+    }
+    0
+}
+
+fn unit(a: Asked, r: UnitRecord) -> u32
+    ensures { λ n. ⌜ n ≡ refusalOf a (Unit r) ⌝ }
+{
+    if a.year == 0 {
+        return 4;
+    }
+    if !unit_fits(r) {
+        return 6;
+    }
+    if !a.area {
+        return 7;
+    }
+    if a.unit {
+        return 8;
+    }
+    0
+}
+
+fn commitment(a: Asked, r: CommitmentRecord) -> u32
+    ensures { λ n. ⌜ n ≡ refusalOf a (Commitment r) ⌝ }
+{
+    if a.year == 0 {
+        return 4;
+    }
+    if !commitment_fits(a.year, r) {
+        return 6;
+    }
+    if !a.unit {
+        return 7;
+    }
+    0
+}
+
+// Row 9.
+fn derated_out(i: InstalledWatts, r: HourRecord) -> bool
+    ensures { λ t. ⌜ t ≡ (eqb (r .kind) 1 && leb (i .0) (r .derating)) ⌝ }
+{
+    if r.kind != 1 {
+        return false;
+    }
+    i.watts() <= r.derating as u64
+}
+
+fn hour(a: Asked, r: HourRecord) -> u32
+    ensures { λ n. ⌜ n ≡ refusalOf a (Hour r) ⌝ }
+{
+    if a.year == 0 {
+        return 4;
+    }
+    if !hour_fits(a.year, r) {
+        return 6;
+    }
+    if !a.unit {
+        return 7;
+    }
+    if derated_out(a.installed, r) {
+        return 9;
+    }
+    if hour_index(a.year, r) <= a.last {
+        return 10;
+    }
+    0
+}
+
+fn load(a: Asked, r: LoadRecord) -> u32
+    ensures { λ n. ⌜ n ≡ refusalOf a (Load r) ⌝ }
+{
+    if a.year == 0 {
+        return 4;
+    }
+    if !load_fits(r) {
+        return 6;
+    }
+    if !a.area {
+        return 7;
+    }
+    0
+}
+
+fn post(a: Asked, r: u32) -> u32
+    ensures { λ n. ⌜ n ≡ refusalOf a (Post r) ⌝ }
+{
+    if a.year == 0 {
+        return 4;
+    }
+    if !is_area(r) {
+        return 6;
+    }
+    if !a.area {
+        return 7;
+    }
+    if a.unplaced {
+        return 11;
+    }
+    0
+}
+
+// The number of the first row that fits; 0 where none does.
+pub fn refusal(a: Asked, r: Record) -> u32
+    ensures { λ n. ⌜ n ≡ refusalOf a r ⌝ }
+{
+    match r {
+        Record::Unframed(f) => fault(f),
+        Record::Year(y) => year(a, y),
+        Record::Area(x) => area(a, x),
+        Record::Unit(x) => unit(a, x),
+        Record::Commitment(x) => commitment(a, x),
+        Record::Hour(x) => hour(a, x),
+        Record::Load(x) => load(a, x),
+        Record::Post(x) => post(a, x),
+    }
+}

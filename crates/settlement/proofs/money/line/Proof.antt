@@ -1,0 +1,76 @@
+use mathlib.Core.Path.{ap, _∙_}
+use native.Mathlib.Omega.{arith}
+use borrow.Author.Needs.{needs}
+use Rattle.settlement.specs.Quantities.{cents}
+use Rattle.settlement.proofs.Sizes.{size-parts}
+use Rattle.settlement.proofs.Lines.{due-too-large, earlier-too-large, line-less}
+use Rattle.settlement.proofs.money.line.Statement.{statement}
+use Rattle.settlement.proofs.money.line.Tie as tie
+
+size-of-requires : tie.Need-size-of-requires
+size-of-requires c κs = search needs
+
+cents-requires : tie.Need-cents-requires
+cents-requires c κs = search needs
+
+returns : tie.Need-returns
+returns c = c .cents .ensures ∙ ap cents (due-too-large _ _ (omega arith))
+
+size-of-requires-2 : tie.Need-size-of-requires-2
+size-of-requires-2 c κs = search needs
+
+cents-requires-2 : tie.Need-cents-requires-2
+cents-requires-2 c κs = search needs
+
+returns-2 : tie.Need-returns-2
+returns-2 c = c .cents2 .ensures ∙ ap cents (earlier-too-large _ _ (omega arith) (omega arith))
+
+cents-above-requires : tie.Need-cents-above-requires
+cents-above-requires c κs = search needs
+
+cents-below-requires : tie.Need-cents-below-requires
+cents-below-requires c κs = search needs
+
+add-cents-difference : tie.Need-add-cents-difference
+add-cents-difference c = search needs
+
+cents-below-requires-2 : tie.Need-cents-below-requires-2
+cents-below-requires-2 c κs = search needs
+
+cents-above-requires-2 : tie.Need-cents-above-requires-2
+cents-above-requires-2 c κs = search needs
+
+add-cents-difference-2 : tie.Need-add-cents-difference-2
+add-cents-difference-2 c = search needs
+
+cents-difference-requires : tie.Need-cents-difference-requires
+cents-difference-requires c κs =
+    let start = c .before .before .before .before .before .before .before .before in
+    omega (arith, size-parts (start .args .due .0), size-parts (start .args .earlier .0))
+
+returns-3 : tie.Need-returns-3
+returns-3 c =
+    c .cents-difference .ensures
+    ∙ ap cents
+    (rw (c .before .before .before .before .cents-above .ensures .0, c .before .before .before .cents-below .ensures .0)
+    (rw (c .before .before .cents-below2 .ensures .0, c .before .cents-above2 .ensures .0)
+    (line-less _ _ (omega arith) (omega arith))))
+
+pub line-spec : {M : Type 1} → statement M
+line-spec =
+    tie.close
+    (tie.spec
+    size-of-requires
+    cents-requires
+    returns
+    size-of-requires-2
+    cents-requires-2
+    returns-2
+    cents-above-requires
+    cents-below-requires
+    add-cents-difference
+    cents-below-requires-2
+    cents-above-requires-2
+    add-cents-difference-2
+    cents-difference-requires
+    returns-3)
