@@ -2,4 +2,6 @@ pub mod Units
 pub mod AreaNets
 pub mod AreaMoney
 pub mod Loops
+pub mod Posting
 pub mod Soundness
+pub mod Answers

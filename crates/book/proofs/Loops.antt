@@ -3,22 +3,22 @@ use mathlib.Core.Path.{_≡_, sym, ap, _∙_}
 use mathlib.Core.List.{List, []}
 use Prim.Native.Nat.{ℕ, _+_, _≤_, _<_}
 use native.Mathlib.Omega.{arith}
-use borrow.Author.Tests.{lt-ltb}
 use lib.IntN.{pos}
 use lib.ListN.{length, getD}
+use borrow.Author.Tests.{lt-ltb}
 use Rattle.calendar.specs.Sum.{sumBelow}
-use Rattle.calendar.proofs.Sums.{sum-one-more}
 use Rattle.calendar.specs.DeliveryYear.{deliveryDays}
+use Rattle.calendar.proofs.Sums.{sum-one-more}
 use Rattle.settlement.specs.declared.Cents.{Cents}
 use Rattle.settlement.specs.declared.UnforcedWatts.{UnforcedWatts}
 use Rattle.settlement.specs.Lists.{listBelow}
 use Rattle.settlement.specs.Shares.{net}
+use Rattle.settlement.specs.Quantities.{cents, unforcedWatts}
+use Rattle.settlement.proofs.Lists.{length-below}
 use Rattle.records.specs.declared.format.CommitmentRecord.{CommitmentRecord}
 use Rattle.records.specs.Facts.{Facts}
 use Rattle.records.specs.Dues.{shareIn, netIn}
 use Rattle.book.specs.declared.Unit.{Unit}
-use Rattle.settlement.specs.Quantities.{cents, unforcedWatts}
-use Rattle.settlement.proofs.Lists.{length-below}
 use Rattle.book.specs.declared.Book.{Book}
 use Rattle.book.specs.Books.{noEntry, factsOf, areaParty, obligationIn, postedIn, SoundUnits, SoundCommitments, Sound}
 use Rattle.book.specs.Entered.{netsWith, noLines}

@@ -28,14 +28,11 @@ use Rattle.records.specs.declared.format.LoadRecord.{LoadRecord}
 use Rattle.records.specs.declared.format.Record.{Record}
 use Rattle.records.specs.declared.format.Record.the-variants.{Unframed, Year, Area, Unit, Commitment, Hour, Load, Post}
 use Rattle.records.specs.declared.refusal.Asked.{Asked}
-use Rattle.records.specs.Format.{Field, fits, yearYear, areaArea, areaPrice, unitUnit, unitArea, unitInstalled, unitE, unitF, unitG, unitClass}
-use Rattle.records.specs.Format.{commitmentNumber, commitmentUnit, commitmentParty, commitmentWatts, hourUnit, hourEnding}
-use Rattle.records.specs.Format.{loadArea, loadParty, loadObligation}
+use Rattle.records.specs.Format.{Field, fits, yearYear, areaArea, areaPrice, unitUnit, unitArea, unitInstalled, unitE, unitF, unitG, unitClass, commitmentNumber, commitmentUnit, commitmentParty, commitmentWatts, hourUnit, hourEnding, loadArea, loadParty, loadObligation}
 use Rattle.records.specs.Decoded.{decoded}
 use Rattle.records.specs.Facts.{noArea, noCommitment}
 use Rattle.records.specs.Hours.{hourIndex, serviceHour, outageHour, deratedWatts, isPeak}
-use Rattle.records.specs.Refusal.{row, refusalOf, hasFault, noYear, secondYear, outOfRange, inRange, notEntered, secondUnit, deratedOut, notLater}
-use Rattle.records.specs.Refusal.{areaFits, unitFits, commitmentFits, hourFits, loadFits}
+use Rattle.records.specs.Refusal.{row, refusalOf, hasFault, noYear, secondYear, outOfRange, inRange, notEntered, secondUnit, deratedOut, notLater, areaFits, unitFits, commitmentFits, hourFits, loadFits}
 use Rattle.records.specs.Dues.{dueIn}
 use Rattle.records.specs.Rules.{place, asked, refusal}
 use Rattle.book.specs.declared.Unit as unit
@@ -109,7 +106,7 @@ empty-sound =
 -- a row that was passed: it does not fit, and the rows after it give 0 too
 passed-row : (n : ℕ) (t : Bool) {x : ℕ} → row (suc n) t x ≡ 0 → (t ≡ false) × (x ≡ 0)
 passed-row n true e = absurd (omega (arith, e))
-passed-row n false e = (refl , e)
+passed-row n false e = (refl, e)
 
 -- what rows 6, 9 and 10 say of a record that no row refuses
 record Accepted (a : Asked) (r : Record) : Type 0 where
@@ -134,9 +131,17 @@ most-of f n e = within-to (f .least) (f .most) n e
 year-sound : (b : Book) (y : ℕ) → Sound b → inRange (b .year) (Year y) ≡ true → Sound (after b (Year y))
 year-sound b y s e =
     record {
-      areas-length = s .areas-length; units-length = s .units-length; commitments-length = s .commitments-length;
-      obligations-length = s .obligations-length; posted-length = s .posted-length; year-most = most-of yearYear y e;
-      prices = s .prices; units = s .units; commitments = s .commitments; obligations = s .obligations; posted = s .posted;
+      areas-length = s .areas-length;
+      units-length = s .units-length;
+      commitments-length = s .commitments-length;
+      obligations-length = s .obligations-length;
+      posted-length = s .posted-length;
+      year-most = most-of yearYear y e;
+      prices = s .prices;
+      units = s .units;
+      commitments = s .commitments;
+      obligations = s .obligations;
+      posted = s .posted;
     }
 
 area-sound : (b : Book) (r : AreaRecord) → Sound b → areaFits r ≡ true → Sound (after b (Area r))
@@ -144,23 +149,41 @@ unfolding areaFits
 area-sound b r s ok =
     let area = both-true {a = fits areaArea (r .area)} ok in
     record {
-      areas-length = length-set (b .areas) (place 8 (r .area)) r ∙ s .areas-length; units-length = s .units-length;
-      commitments-length = s .commitments-length; obligations-length = s .obligations-length; posted-length = s .posted-length;
+      areas-length = length-set (b .areas) (place 8 (r .area)) r ∙ s .areas-length;
+      units-length = s .units-length;
+      commitments-length = s .commitments-length;
+      obligations-length = s .obligations-length;
+      posted-length = s .posted-length;
       year-most = s .year-most;
       prices = each-stored PriceFits noArea (b .areas) (place 8 (r .area)) r (most-of areaPrice (r .price) (area .1)) (s .prices);
-      units = s .units; commitments = s .commitments; obligations = s .obligations; posted = s .posted;
+      units = s .units;
+      commitments = s .commitments;
+      obligations = s .obligations;
+      posted = s .posted;
     }
 
 -- a book with another sound unit at some place
 unit-stored : (b : Book) (i : ℕ) (u : unit.Unit) → Sound b → SoundUnit u → Sound (record {
-    year = b .year; areas = b .areas; units = set (b .units) i u; commitments = b .commitments; obligations = b .obligations;
-    posted = b .posted })
+  year = b .year;
+  areas = b .areas;
+  units = set (b .units) i u;
+  commitments = b .commitments;
+  obligations = b .obligations;
+  posted = b .posted;
+})
 unit-stored b i u s new =
     record {
-      areas-length = s .areas-length; units-length = length-set (b .units) i u ∙ s .units-length;
-      commitments-length = s .commitments-length; obligations-length = s .obligations-length; posted-length = s .posted-length;
-      year-most = s .year-most; prices = s .prices; units = each-stored SoundUnit noEntry (b .units) i u new (s .units);
-      commitments = s .commitments; obligations = s .obligations; posted = s .posted;
+      areas-length = s .areas-length;
+      units-length = length-set (b .units) i u ∙ s .units-length;
+      commitments-length = s .commitments-length;
+      obligations-length = s .obligations-length;
+      posted-length = s .posted-length;
+      year-most = s .year-most;
+      prices = s .prices;
+      units = each-stored SoundUnit noEntry (b .units) i u new (s .units);
+      commitments = s .commitments;
+      obligations = s .obligations;
+      posted = s .posted;
     }
 
 -- a unit in range, without hours
@@ -203,12 +226,18 @@ commitment-sound y c ok =
 commitment-stored : (b : Book) (r : CommitmentRecord) → Sound b → commitmentFits (b .year) r ≡ true → Sound (after b (Commitment r))
 commitment-stored b r s e =
     record {
-      areas-length = s .areas-length; units-length = s .units-length;
+      areas-length = s .areas-length;
+      units-length = s .units-length;
       commitments-length = length-set (b .commitments) (place 64 (r .number)) r ∙ s .commitments-length;
-      obligations-length = s .obligations-length; posted-length = s .posted-length; year-most = s .year-most; prices = s .prices; units = s .units;
+      obligations-length = s .obligations-length;
+      posted-length = s .posted-length;
+      year-most = s .year-most;
+      prices = s .prices;
+      units = s .units;
       commitments =
-        each-stored SoundCommitment noCommitment (b .commitments) (place 64 (r .number)) r (commitment-sound (b .year) r e) (s .commitments);
-      obligations = s .obligations; posted = s .posted;
+          each-stored SoundCommitment noCommitment (b .commitments) (place 64 (r .number)) r (commitment-sound (b .year) r e) (s .commitments);
+      obligations = s .obligations;
+      posted = s .posted;
     }
 
 -- no kind is in service and in outage
@@ -242,17 +271,21 @@ with-hour-sound y u h s ok not-out later =
     let date = both-true {a = isDeliveryDate y (h .month) (h .day)} (both-true {a = fits hourUnit (h .unit)} ok .1) in
     let ending = both-true {a = fits hourEnding (h .hour)} (date .1) in
     record {
-      installed-most = s .installed-most; installed-least = s .installed-least;
-      e-most = s .e-most; f-most = s .f-most; g-most = s .g-most; class-most = s .class-most;
+      installed-most = s .installed-most;
+      installed-least = s .installed-least;
+      e-most = s .e-most;
+      f-most = s .f-most;
+      g-most = s .g-most;
+      class-most = s .class-most;
       hours-counted = omega (arith, s .hours-counted, leb-false (hourIndex y h) (u .last) later, counted-once (isPeak y h) (h .kind));
       last-most = omega (arith, day-small y (h .month) (h .day), most-of hourEnding (h .hour) (ending .0));
       derated-most =
-        omega (
-          arith,
-          s .derated-most,
-          add-mul (u .sh) service installed,
-          derated-in-service (isPeak y h) (h .kind) (h .derating) installed not-out,
-        );
+          omega (
+            arith,
+            s .derated-most,
+            add-mul (u .sh) service installed,
+            derated-in-service (isPeak y h) (h .kind) (h .derating) installed not-out,
+          );
     }
 
 load-sound : (b : Book) (r : LoadRecord) → Sound b → loadFits r ≡ true → Sound (after b (Load r))
@@ -261,11 +294,17 @@ load-sound b r s ok =
     let party = both-true {a = fits loadParty (r .party)} (both-true {a = fits loadArea (r .area)} ok .1) in
     let i : ℕ = areaParty (place 8 (r .area)) (place 16 (r .party)) in
     record {
-      areas-length = s .areas-length; units-length = s .units-length; commitments-length = s .commitments-length;
+      areas-length = s .areas-length;
+      units-length = s .units-length;
+      commitments-length = s .commitments-length;
       obligations-length = length-set (b .obligations) i (r .obligation) ∙ s .obligations-length;
-      posted-length = s .posted-length; year-most = s .year-most; prices = s .prices; units = s .units; commitments = s .commitments;
+      posted-length = s .posted-length;
+      year-most = s .year-most;
+      prices = s .prices;
+      units = s .units;
+      commitments = s .commitments;
       obligations =
-        each-stored ObligationFits 0 (b .obligations) i (r .obligation) (most-of loadObligation (r .obligation) (party .1)) (s .obligations);
+          each-stored ObligationFits 0 (b .obligations) i (r .obligation) (most-of loadObligation (r .obligation) (party .1)) (s .obligations);
       posted = s .posted;
     }
 
@@ -277,9 +316,16 @@ post-sound : (b : Book) (a : ℕ) → Sound b → DuesFit b → Sound (after b (
 unfolding postedAfter
 post-sound b a s dues =
     record {
-      areas-length = s .areas-length; units-length = s .units-length; commitments-length = s .commitments-length;
-      obligations-length = s .obligations-length; posted-length = length-below 128 _; year-most = s .year-most; prices = s .prices;
-      units = s .units; commitments = s .commitments; obligations = s .obligations;
+      areas-length = s .areas-length;
+      units-length = s .units-length;
+      commitments-length = s .commitments-length;
+      obligations-length = s .obligations-length;
+      posted-length = length-below 128 _;
+      year-most = s .year-most;
+      prices = s .prices;
+      units = s .units;
+      commitments = s .commitments;
+      obligations = s .obligations;
       posted = each-made SumFits (cents (pos 0)) 128 _ (omega arith) (λ k below. either (eqb (k / 16) (place 8 a)) k);
     }
   where

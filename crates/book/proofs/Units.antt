@@ -1,11 +1,9 @@
 -- What the ranges of a unit and of a commitment bound.
-use mathlib.Core.Path.{_≡_, refl, sym, _∙_}
-use mathlib.Core.Bool.{Bool, true, false, cond}
-use Prim.Native.Nat.{ℕ, _+_, _-_, _*_, _≤_}
+use mathlib.Core.Path.{_≡_, _∙_}
+use Prim.Native.Nat.{ℕ, _+_, _-_, _≤_}
 use native.Mathlib.Nat.{mul-le-mul}
 use native.Mathlib.Omega.{arith}
 use borrow.Author.Tests.{eq-eqb, ne-eqb, le-leb}
-use lib.Dec.{eqb, leb}
 use Rattle.settlement.specs.Capacity.{wattDays, wattDaysAnswer}
 use Rattle.records.specs.declared.format.CommitmentRecord.{CommitmentRecord}
 use Rattle.book.specs.declared.Unit.{Unit}
@@ -15,8 +13,13 @@ use Rattle.book.specs.Entered.{commitmentPart}
 -- D is below 2^36 however the hours fell
 pub derated-most : {u : Unit} → SoundUnit u → u .d ≤ 43920000000
 derated-most {u} h =
-    omega (arith, h .derated-most, h .hours-counted, h .last-most,
-    mul-le-mul {n₁ = u .sh} {m₁ = u .entry .installed .0} {n₂ = 8784} {m₂ = 5000000} (omega (arith, h .hours-counted, h .last-most)) (h .installed-most))
+    omega (
+      arith,
+      h .derated-most,
+      h .hours-counted,
+      h .last-most,
+      mul-le-mul {n₁ = u .sh} {m₁ = u .entry .installed .0} {n₂ = 8784} {m₂ = 5000000} (omega (arith, h .hours-counted, h .last-most)) (h .installed-most),
+    )
 
 -- a commitment's watt-days are at most 5,000,000 × 366, and what `watt_days` answers
 pub watt-days-most : {c : CommitmentRecord} → SoundCommitment c → wattDays (c .watts) (c .first) (c .last) ≤ 1830000000

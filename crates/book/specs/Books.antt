@@ -32,21 +32,29 @@ obligationIn l a p = cond (ltb p 16) (getD l (areaParty a p) 0) 0
 -- the facts of arrays of areas, units, commitments and obligations
 abbrev pub factsOf : ℕ → List AreaRecord → List Unit → List CommitmentRecord → List ℕ → Facts
 factsOf year areas units commitments obligations = record {
-    year = year;
-    area = λ k. getD areas k noArea;
-    unit = λ k. getD units k noEntry .entry;
-    commitment = λ k. getD commitments k noCommitment;
-    obligation = obligationIn obligations;
-    sh = λ k. getD units k noEntry .sh;
-    foh = λ k. getD units k noEntry .foh;
-    d = λ k. getD units k noEntry .d;
-    last = λ k. getD units k noEntry .last }
+  year = year;
+  area = λ k. getD areas k noArea;
+  unit = λ k. getD units k noEntry .entry;
+  commitment = λ k. getD commitments k noCommitment;
+  obligation = obligationIn obligations;
+  sh = λ k. getD units k noEntry .sh;
+  foh = λ k. getD units k noEntry .foh;
+  d = λ k. getD units k noEntry .d;
+  last = λ k. getD units k noEntry .last;
+}
 
 -- what a unit's shortfall is worked out from, beside its commitments
 abbrev pub figuresOf : Unit → UnitFacts
 figuresOf u = record {
-    installed = u .entry .installed; e = u .entry .e; f = u .entry .f; g = u .entry .g; class = u .entry .class;
-    sh = u .sh; foh = u .foh; d = u .d }
+  installed = u .entry .installed;
+  e = u .entry .e;
+  f = u .entry .f;
+  g = u .entry .g;
+  class = u .entry .class;
+  sh = u .sh;
+  foh = u .foh;
+  d = u .d;
+}
 
 -- the facts of a book
 abbrev pub factsOfBook : Book → Facts
@@ -59,12 +67,13 @@ postedIn l a p = getD l (areaParty a p) (cents (pos 0)) .0
 -- the book with nothing entered
 abbrev pub emptyBook : Book
 emptyBook = record {
-    year = 0;
-    areas = listBelow 8 (λ k. noArea);
-    units = listBelow 32 (λ k. noEntry);
-    commitments = listBelow 64 (λ k. noCommitment);
-    obligations = listBelow 128 (λ k. 0);
-    posted = listBelow 128 (λ k. cents (pos 0)) }
+  year = 0;
+  areas = listBelow 8 (λ k. noArea);
+  units = listBelow 32 (λ k. noEntry);
+  commitments = listBelow 64 (λ k. noCommitment);
+  obligations = listBelow 128 (λ k. 0);
+  posted = listBelow 128 (λ k. cents (pos 0));
+}
 
 -- The ranges of 01, Records, and what follows from them for a unit's hours. A place that is not entered is in them too.
 pub record SoundUnit (u : Unit) : Type 0 where

@@ -34,7 +34,12 @@ newUnit r = record { entry = r; sh = 0; foh = 0; d = 0; last = 0 }
 -- a unit with one accepted Hour record more; an hour that isn't peak only moves the last hour
 unfoldable pub withHour : ℕ → unit.Unit → HourRecord → unit.Unit
 withHour y u h = record {
-    entry = u .entry; sh = u .sh + serviceHour y h; foh = u .foh + outageHour y h; d = u .d + deratedWatts y h; last = hourIndex y h }
+  entry = u .entry;
+  sh = u .sh + serviceHour y h;
+  foh = u .foh + outageHour y h;
+  d = u .d + deratedWatts y h;
+  last = hourIndex y h;
+}
 
 -- posted sums after a post of area a: place k is area k / 16's, party k % 16's, and its lines there now add up to its due
 unfoldable pub postedAfter : Book → ℕ → List Cents
@@ -43,29 +48,58 @@ postedAfter b a = listBelow 128 (λ k. cond (eqb (k / 16) a) (cents (dueIn (fact
 -- a Post changes only the posted sums
 abbrev pub afterPost : Book → ℕ → Book
 afterPost b a = record {
-    year = b .year; areas = b .areas; units = b .units; commitments = b .commitments; obligations = b .obligations;
-    posted = postedAfter b a }
+  year = b .year;
+  areas = b .areas;
+  units = b .units;
+  commitments = b .commitments;
+  obligations = b .obligations;
+  posted = postedAfter b a;
+}
 
 -- the book after an accepted record
 abbrev pub after : Book → Record → Book
 after b (Unframed f) = b
 after b (Year y) = record { year = y; areas = b .areas; units = b .units; commitments = b .commitments; obligations = b .obligations; posted = b .posted }
 after b (Area r) = record {
-    year = b .year; areas = set (b .areas) (place 8 (r .area)) r; units = b .units; commitments = b .commitments;
-    obligations = b .obligations; posted = b .posted }
+  year = b .year;
+  areas = set (b .areas) (place 8 (r .area)) r;
+  units = b .units;
+  commitments = b .commitments;
+  obligations = b .obligations;
+  posted = b .posted;
+}
 after b (Unit r) = record {
-    year = b .year; areas = b .areas; units = set (b .units) (place 32 (r .unit)) (newUnit r); commitments = b .commitments;
-    obligations = b .obligations; posted = b .posted }
+  year = b .year;
+  areas = b .areas;
+  units = set (b .units) (place 32 (r .unit)) (newUnit r);
+  commitments = b .commitments;
+  obligations = b .obligations;
+  posted = b .posted;
+}
 after b (Commitment r) = record {
-    year = b .year; areas = b .areas; units = b .units; commitments = set (b .commitments) (place 64 (r .number)) r;
-    obligations = b .obligations; posted = b .posted }
+  year = b .year;
+  areas = b .areas;
+  units = b .units;
+  commitments = set (b .commitments) (place 64 (r .number)) r;
+  obligations = b .obligations;
+  posted = b .posted;
+}
 after b (Hour r) = record {
-    year = b .year; areas = b .areas;
-    units = set (b .units) (place 32 (r .unit)) (withHour (b .year) (getD (b .units) (place 32 (r .unit)) noEntry) r);
-    commitments = b .commitments; obligations = b .obligations; posted = b .posted }
+  year = b .year;
+  areas = b .areas;
+  units = set (b .units) (place 32 (r .unit)) (withHour (b .year) (getD (b .units) (place 32 (r .unit)) noEntry) r);
+  commitments = b .commitments;
+  obligations = b .obligations;
+  posted = b .posted;
+}
 after b (Load r) = record {
-    year = b .year; areas = b .areas; units = b .units; commitments = b .commitments;
-    obligations = set (b .obligations) (areaParty (place 8 (r .area)) (place 16 (r .party))) (r .obligation); posted = b .posted }
+  year = b .year;
+  areas = b .areas;
+  units = b .units;
+  commitments = b .commitments;
+  obligations = set (b .obligations) (areaParty (place 8 (r .area)) (place 16 (r .party))) (r .obligation);
+  posted = b .posted;
+}
 after b (Post a) = afterPost b (place 8 a)
 
 -- sixteen zero lines

@@ -1,21 +1,21 @@
 // The book: units, commitments and posted sums, one value; records are entered, and areas posted.
-use records::format::AreaRecord;
-use records::format::CommitmentRecord;
-use records::format::Record;
-use records::format::UnitRecord;
-use records::decode::decode;
-use records::places::area_named;
-use records::places::place;
-use records::places::unit_named;
-use records::refusal::refusal;
-use settlement::Cents;
-use settlement::InstalledWatts;
 use crate::hours::asked;
 use crate::hours::new_unit;
 use crate::hours::with_hour;
 use crate::money::area_party;
 use crate::money::no_lines;
 use crate::money::post;
+use records::decode::decode;
+use records::format::AreaRecord;
+use records::format::CommitmentRecord;
+use records::format::Record;
+use records::format::UnitRecord;
+use records::places::area_named;
+use records::places::place;
+use records::places::unit_named;
+use records::refusal::refusal;
+use settlement::Cents;
+use settlement::InstalledWatts;
 ghost use mathlib.Core.Path.{_≡_};
 ghost use Rattle.book.specs.Books.{emptyBook, Sound};
 ghost use Rattle.book.specs.Entered.{entered};
@@ -52,8 +52,11 @@ pub struct Answer {
 
 impl Book {
     pub const AREAS: usize = 8;
+
     pub const UNITS: usize = 32;
+
     pub const PARTIES: usize = 16;
+
     pub const COMMITMENTS: usize = 64;
 
     // A book with nothing entered.

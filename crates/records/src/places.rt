@@ -17,7 +17,7 @@ pub fn place(most: u32, number: u32) -> usize
 
 // The place of the area that a record names.
 pub fn area_named(r: Record) -> usize
-    ensures { λ n. ⌜ n ≡ areaNamed r ⌝ }
+    ensures { λ n. ⌜ (n ≡ areaNamed r) × (n < 8) ⌝ }
 {
     match r {
         Record::Unframed(_) => 0,
@@ -33,7 +33,7 @@ pub fn area_named(r: Record) -> usize
 
 // The place of the unit that a record names.
 pub fn unit_named(r: Record) -> usize
-    ensures { λ n. ⌜ n ≡ unitNamed r ⌝ }
+    ensures { λ n. ⌜ (n ≡ unitNamed r) × (n < 32) ⌝ }
 {
     match r {
         Record::Unframed(_) => 0,

@@ -1,8 +1,8 @@
 use native.Mathlib.Omega.{arith}
+use borrow.Author.Needs.{needs}
 use Rattle.records.specs.Hours.{serviceHour, outageHour, deratedWatts}
 use Rattle.book.specs.Entered.{withHour}
 use Rattle.book.proofs.Units.{derated-most}
-use borrow.Author.Needs.{needs}
 use Rattle.book.proofs.hours.with_hour.Statement.{statement}
 use Rattle.book.proofs.hours.with_hour.Tie as tie
 
@@ -29,7 +29,8 @@ derated-watts-requires : tie.Need-derated-watts-requires
 derated-watts-requires c κs = search needs
 
 add-t11 : tie.Need-add-t11
-add-t11 c = omega (arith, derated-most (c .before .before .before .before .before .before .before .before .pre), c .before .derated-watts .ensures .1)
+add-t11 c =
+    omega (arith, derated-most (c .before .before .before .before .before .before .before .before .pre), c .before .derated-watts .ensures .1)
 
 hour-index-requires : tie.Need-hour-index-requires
 hour-index-requires c κs = search needs

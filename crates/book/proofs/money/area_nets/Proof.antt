@@ -1,9 +1,8 @@
-use borrow.Author.Needs.{needs}
-use native.Mathlib.Omega.{arith}
-use mathlib.Core.Path.{_≡_, ap, _∙_}
+use mathlib.Core.Path.{_≡_, _∙_}
 use mathlib.Core.List.{[]}
 use Prim.Native.Nat.{_-_, _≤_}
-use Rattle.calendar.specs.DeliveryYear.{deliveryDays}
+use native.Mathlib.Omega.{arith}
+use borrow.Author.Needs.{needs}
 use Rattle.settlement.specs.Lists.{listBelow}
 use Rattle.settlement.specs.Quantities.{unforcedWatts}
 use Rattle.settlement.specs.Shares.{net}
@@ -13,11 +12,6 @@ use Rattle.book.proofs.Loops.{nets-more, nets-done}
 use Rattle.book.proofs.AreaNets.{nets-none}
 use Rattle.book.proofs.money.area_nets.Statement.{statement}
 use Rattle.book.proofs.money.area_nets.Tie as tie
-use Rattle.book.proofs.money.area_nets.Reads as reads
-use Rattle.book.proofs.money.area_nets.Lts as lts
-use Rattle.book.proofs.money.nets_with.Reads as nets-with-reads
-use Rattle.calendar.proofs.delivery_year.delivery_days.Reads as delivery-days-reads
-use Rattle.settlement.proofs.shares.no_nets.Reads as no-nets-reads
 
 abbrev Inv-loop : tie.InvT-loop
 Inv-loop year commitments area units days nets₀ k₀ nets k =
@@ -26,53 +20,43 @@ Inv-loop year commitments area units days nets₀ k₀ nets k =
 abbrev μ-loop : tie.MeasureT-loop
 μ-loop year commitments area units days nets₀ k₀ nets k = 32 - k
 
--- src/money.rt:134:16
 delivery-days-requires : tie.Need-delivery-days-requires Inv-loop μ-loop
 delivery-days-requires c κs = search needs
 
--- src/money.rt:134:16
 cast-days : tie.Need-cast-days Inv-loop μ-loop
 cast-days c = search needs
 
--- src/money.rt:135:9
 no-nets-requires : tie.Need-no-nets-requires Inv-loop μ-loop
 no-nets-requires c κs = search needs
 
--- src/money.rt:137:5
 loop-holds : tie.Need-loop-holds Inv-loop μ-loop
 loop-holds c = (omega arith, c .no-nets .ensures ∙ nets-none _)
 
--- src/money.rt:138:17
 mul-u : tie.Need-mul-u Inv-loop μ-loop
 mul-u c = search needs
 
--- src/money.rt:138:17
 array-copy-out-u : tie.Need-array-copy-out-u Inv-loop μ-loop
 array-copy-out-u c = search needs
 
--- src/money.rt:139:13
 nets-with-requires : tie.Need-nets-with-requires Inv-loop μ-loop
 nets-with-requires c κs =
     let start = c .before .before .before .before .before in
     (start .pre .1, omega arith, start .pre .2)
 
--- src/money.rt:141:9
 add-k : tie.Need-add-k Inv-loop μ-loop
 add-k c = search needs
 
--- src/money.rt:137:5
 loop-less : tie.Need-loop-less Inv-loop μ-loop
 loop-less c = search needs
 
--- src/money.rt:137:5
 loop-again : tie.Need-loop-again Inv-loop μ-loop
 loop-again c =
     let start = c .before .before .before .before .before .before in
-    let inv = c .before .before .before .loop .inv in
-    (omega arith,
-    nets-more (start .args .year) (start .args .t2) (start .args .commitments) (start .args .area) _ (start .pre .0) (start .pre .1) (omega arith) (inv .1) (c .before .before .before .before .before .delivery-days .ensures) (c .nets-with .ensures))
+    let inv = c .before .before .before .loop .inv in (
+      omega arith,
+      nets-more (start .args .year) (start .args .t2) (start .args .commitments) (start .args .area) _ (start .pre .0) (start .pre .1) (omega arith) (inv .1) (c .before .before .before .before .before .delivery-days .ensures) (c .nets-with .ensures),
+    )
 
--- src/money.rt:125:1
 returns : tie.Need-returns Inv-loop μ-loop
 returns c =
     let start = c .before .before .before .before in

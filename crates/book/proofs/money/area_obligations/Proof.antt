@@ -1,15 +1,12 @@
-use borrow.Author.Needs.{needs}
+use mathlib.Core.Path.{refl}
+use Prim.Native.Nat.{_-_}
 use native.Mathlib.Omega.{arith}
-use mathlib.Core.Path.{_≡_, refl, ap, sym, _∙_}
-use Prim.Native.Nat.{_-_, _/_, _%_}
+use borrow.Author.Needs.{needs}
 use Rattle.settlement.proofs.Lists.{Filled, filled-none, filled-more, filled-all}
 use Rattle.book.specs.Books.{obligationIn}
 use Rattle.book.proofs.Loops.{obligation-at}
 use Rattle.book.proofs.money.area_obligations.Statement.{statement}
 use Rattle.book.proofs.money.area_obligations.Tie as tie
-use Rattle.book.proofs.money.area_obligations.Reads as reads
-use Rattle.book.proofs.money.area_obligations.Lts as lts
-use Rattle.book.proofs.money.area_party.Reads as area-party-reads
 
 abbrev Inv-loop : tie.InvT-loop
 Inv-loop area obligations found₀ p₀ found p = Filled 16 (obligationIn obligations area) found p
@@ -17,47 +14,37 @@ Inv-loop area obligations found₀ p₀ found p = Filled 16 (obligationIn obliga
 abbrev μ-loop : tie.MeasureT-loop
 μ-loop area obligations found₀ p₀ found p = 16 - p
 
--- src/money.rt:152:5
 loop-holds : tie.Need-loop-holds Inv-loop μ-loop
 loop-holds c = filled-none refl
 
--- src/money.rt:153:13
 area-party-requires : tie.Need-area-party-requires Inv-loop μ-loop
 area-party-requires c κs = (c .before .before .pre, omega arith)
 
--- src/money.rt:154:20
 mul-found : tie.Need-mul-found Inv-loop μ-loop
 mul-found c = search needs
 
--- src/money.rt:154:20
 array-read-found : tie.Need-array-read-found Inv-loop μ-loop
 array-read-found c = search needs
 
--- src/money.rt:154:20
 cast-found : tie.Need-cast-found Inv-loop μ-loop
 cast-found c = search needs
 
--- src/money.rt:154:9
 mul-found-2 : tie.Need-mul-found-2 Inv-loop μ-loop
 mul-found-2 c = search needs
 
--- src/money.rt:154:9
 array-write-found : tie.Need-array-write-found Inv-loop μ-loop
 array-write-found c = search needs
 
--- src/money.rt:155:9
 add-p : tie.Need-add-p Inv-loop μ-loop
 add-p c = search needs
 
--- src/money.rt:152:5
 loop-less : tie.Need-loop-less Inv-loop μ-loop
 loop-less c = search needs
 
--- src/money.rt:152:5
 loop-again : tie.Need-loop-again Inv-loop μ-loop
-loop-again c = filled-more (c .before .before .loop .inv) (omega arith) (obligation-at (c .before .before .before .args .t1) (c .before .before .before .args .area) _ (omega arith) (c .area-party .ensures .0))
+loop-again c =
+    filled-more (c .before .before .loop .inv) (omega arith) (obligation-at (c .before .before .before .args .t1) (c .before .before .before .args .area) _ (omega arith) (c .area-party .ensures .0))
 
--- src/money.rt:146:1
 returns : tie.Need-returns Inv-loop μ-loop
 returns c = filled-all (c .before .loop .inv) (omega arith)
 

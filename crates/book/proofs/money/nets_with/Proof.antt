@@ -1,45 +1,31 @@
 use borrow.Author.Tests.{eq-eqb, ne-eqb}
-use Rattle.book.specs.Entered.{netsWith}
 use borrow.Author.Needs.{needs}
+use Rattle.book.specs.Entered.{netsWith}
 use Rattle.book.proofs.money.nets_with.Statement.{statement}
 use Rattle.book.proofs.money.nets_with.Tie as tie
-use Rattle.book.proofs.money.nets_with.Reads as reads
-use Rattle.book.proofs.money.nets_with.Lts as lts
-use Rattle.book.proofs.money.parts.Reads as parts-reads
-use Rattle.book.proofs.money.unit_facts.Reads as unit-facts-reads
-use Rattle.settlement.proofs.shares.add_shares.Reads as add-shares-reads
-use Rattle.settlement.proofs.shares.unit_shares.Reads as unit-shares-reads
 
--- src/money.rt:116:8
 cast-if1 : tie.Need-cast-if1
 cast-if1 c = search needs
 
--- src/money.rt:116:31
 add-if1 : tie.Need-add-if1
 add-if1 c = search needs
 
--- src/money.rt:117:9
 returns : tie.Need-returns
 unfolding netsWith
 returns c = simp (ne-eqb _ _ (c .if1 .taken))
 
--- src/money.rt:119:9
 parts-requires : tie.Need-parts-requires
 parts-requires c κs = search needs
 
--- src/money.rt:120:30
 unit-facts-requires : tie.Need-unit-facts-requires
 unit-facts-requires c κs = search needs
 
--- src/money.rt:120:9
 unit-shares-requires : tie.Need-unit-shares-requires
 unit-shares-requires c κs = search needs
 
--- src/money.rt:121:5
 add-shares-requires : tie.Need-add-shares-requires
 add-shares-requires c κs = search needs
 
--- src/money.rt:104:1
 returns-2 : tie.Need-returns-2
 unfolding netsWith
 returns-2 c =

@@ -1,16 +1,13 @@
-use borrow.Author.Needs.{needs}
-use native.Mathlib.Omega.{arith}
-use mathlib.Core.Path.{_≡_, refl, ap, sym, _∙_}
-use Prim.Native.Nat.{_-_, _/_, _%_}
-use Rattle.settlement.proofs.Lists.{Filled, filled-none, filled-more, filled-all}
+use mathlib.Core.Path.{refl}
 use mathlib.Core.List.{[]}
+use Prim.Native.Nat.{_-_}
+use native.Mathlib.Omega.{arith}
+use borrow.Author.Needs.{needs}
+use Rattle.settlement.proofs.Lists.{Filled, filled-none, filled-more, filled-all}
 use Rattle.records.specs.Dues.{partFor}
 use Rattle.book.specs.Books.{factsOf}
 use Rattle.book.proofs.money.parts.Statement.{statement}
 use Rattle.book.proofs.money.parts.Tie as tie
-use Rattle.book.proofs.money.parts.Reads as reads
-use Rattle.book.proofs.money.parts.Lts as lts
-use Rattle.book.proofs.money.part.Reads as part-reads
 
 abbrev Inv-loop : tie.InvT-loop
 Inv-loop commitments u parts₀ p₀ parts p = Filled 16 (partFor (factsOf 0 [] [] commitments []) u) parts p
@@ -18,35 +15,27 @@ Inv-loop commitments u parts₀ p₀ parts p = Filled 16 (partFor (factsOf 0 [] 
 abbrev μ-loop : tie.MeasureT-loop
 μ-loop commitments u parts₀ p₀ parts p = 16 - p
 
--- src/money.rt:79:5
 loop-holds : tie.Need-loop-holds Inv-loop μ-loop
 loop-holds c = filled-none refl
 
--- src/money.rt:80:20
 part-requires : tie.Need-part-requires Inv-loop μ-loop
 part-requires c κs = (c .before .before .pre .0, c .before .before .pre .1, omega arith)
 
--- src/money.rt:80:9
 mul-parts : tie.Need-mul-parts Inv-loop μ-loop
 mul-parts c = search needs
 
--- src/money.rt:80:9
 array-write-parts : tie.Need-array-write-parts Inv-loop μ-loop
 array-write-parts c = search needs
 
--- src/money.rt:81:9
 add-p : tie.Need-add-p Inv-loop μ-loop
 add-p c = search needs
 
--- src/money.rt:79:5
 loop-less : tie.Need-loop-less Inv-loop μ-loop
 loop-less c = search needs
 
--- src/money.rt:79:5
 loop-again : tie.Need-loop-again Inv-loop μ-loop
 loop-again c = filled-more (c .before .before .loop .inv) (omega arith) (c .part .ensures)
 
--- src/money.rt:73:1
 returns : tie.Need-returns Inv-loop μ-loop
 returns c = filled-all (c .before .loop .inv) (omega arith)
 

@@ -1,14 +1,10 @@
 use borrow.Author.Tests.{eq-eqb, ne-eqb}
 use Rattle.book.proofs.money.posted_sum.Statement.{statement}
 use Rattle.book.proofs.money.posted_sum.Tie as tie
-use Rattle.book.proofs.money.posted_sum.Reads as reads
-use Rattle.book.proofs.money.posted_sum.Lts as lts
 
--- src/money.rt:179:9
 returns : tie.Need-returns
 returns c = simp (eq-eqb _ _ (c .if1 .taken))
 
--- src/money.rt:175:1
 returns-2 : tie.Need-returns-2
 returns-2 c = simp (ne-eqb _ _ (c .if1 .left))
 

@@ -1,18 +1,14 @@
-use borrow.Author.Needs.{needs}
-use native.Mathlib.Omega.{arith}
-use mathlib.Core.Path.{_≡_, refl, ap, sym, _∙_}
-use Prim.Native.Nat.{_-_, _/_, _%_}
-use Rattle.settlement.proofs.Lists.{Filled, filled-none, filled-more, filled-all}
 use mathlib.Core.Bool.{cond}
+use Prim.Native.Nat.{_-_, _/_, _%_}
+use native.Mathlib.Omega.{arith}
 use lib.IntN.{pos}
 use lib.Dec.{eqb}
 use lib.ListN.{getD}
+use borrow.Author.Needs.{needs}
 use Rattle.settlement.specs.Quantities.{cents}
+use Rattle.settlement.proofs.Lists.{Filled, filled-none, filled-more, filled-all}
 use Rattle.book.proofs.money.with_dues.Statement.{statement}
 use Rattle.book.proofs.money.with_dues.Tie as tie
-use Rattle.book.proofs.money.with_dues.Reads as reads
-use Rattle.book.proofs.money.with_dues.Lts as lts
-use Rattle.book.proofs.money.posted_sum.Reads as posted-sum-reads
 
 abbrev Inv-loop : tie.InvT-loop
 Inv-loop area posted dues sums₀ k₀ sums k =
@@ -21,51 +17,39 @@ Inv-loop area posted dues sums₀ k₀ sums k =
 abbrev μ-loop : tie.MeasureT-loop
 μ-loop area posted dues sums₀ k₀ sums k = 128 - k
 
--- src/money.rt:190:5
 loop-holds : tie.Need-loop-holds Inv-loop μ-loop
 loop-holds c = filled-none (search needs)
 
--- src/money.rt:191:30
 mul-posted-sum : tie.Need-mul-posted-sum Inv-loop μ-loop
 mul-posted-sum c = search needs
 
--- src/money.rt:191:30
 array-copy-out-posted-sum : tie.Need-array-copy-out-posted-sum Inv-loop μ-loop
 array-copy-out-posted-sum c = search needs
 
--- src/money.rt:191:41
 mul-posted-sum-2 : tie.Need-mul-posted-sum-2 Inv-loop μ-loop
 mul-posted-sum-2 c = search needs
 
--- src/money.rt:191:41
 array-copy-out-posted-sum-2 : tie.Need-array-copy-out-posted-sum-2 Inv-loop μ-loop
 array-copy-out-posted-sum-2 c = search needs
 
--- src/money.rt:191:19
 posted-sum-requires : tie.Need-posted-sum-requires Inv-loop μ-loop
 posted-sum-requires c κs = search needs
 
--- src/money.rt:191:9
 mul-sums : tie.Need-mul-sums Inv-loop μ-loop
 mul-sums c = search needs
 
--- src/money.rt:191:9
 array-set-from-sums : tie.Need-array-set-from-sums Inv-loop μ-loop
 array-set-from-sums c = search needs
 
--- src/money.rt:192:9
 add-k : tie.Need-add-k Inv-loop μ-loop
 add-k c = search needs
 
--- src/money.rt:190:5
 loop-less : tie.Need-loop-less Inv-loop μ-loop
 loop-less c = search needs
 
--- src/money.rt:190:5
 loop-again : tie.Need-loop-again Inv-loop μ-loop
 loop-again c = filled-more (c .before .before .before .before .loop .inv) (omega arith) (c .posted-sum .ensures)
 
--- src/money.rt:185:1
 returns : tie.Need-returns Inv-loop μ-loop
 returns c = filled-all (c .before .loop .inv) (omega arith)
 

@@ -14,7 +14,11 @@ quad-requires : tie.Need-quad-requires
 quad-requires c κs = search needs
 
 returns-2 : tie.Need-returns-2
-returns-2 c = of-length areaFormat _ (c .before .before .before .before .pre) (c .before .before .if1 .left) (simp (c .quad .ensures, c .before .byte .ensures .0))
+returns-2 c =
+    of-length areaFormat _ (c .before .before .before .before .pre) (c .before .before .if1 .left) (simp (
+      c .quad .ensures,
+      c .before .byte .ensures .0,
+    ))
 
 pub area-spec : {M : Type 1} → statement M
 area-spec = tie.close (tie.spec returns byte-requires quad-requires returns-2)

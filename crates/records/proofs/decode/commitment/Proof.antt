@@ -26,7 +26,15 @@ quad-requires : tie.Need-quad-requires
 quad-requires c κs = search needs
 
 returns-2 : tie.Need-returns-2
-returns-2 c = of-length commitmentFormat _ (c .before .before .before .before .before .before .before .before .pre) (c .before .before .before .before .before .before .if1 .left) (simp (c .quad .ensures, c .before .pair2 .ensures .0, c .before .before .pair .ensures .0, c .before .before .before .byte3 .ensures .0, c .before .before .before .before .byte2 .ensures .0, c .before .before .before .before .before .byte .ensures .0))
+returns-2 c =
+    of-length commitmentFormat _ (c .before .before .before .before .before .before .before .before .pre) (c .before .before .before .before .before .before .if1 .left) (simp (
+      c .quad .ensures,
+      c .before .pair2 .ensures .0,
+      c .before .before .pair .ensures .0,
+      c .before .before .before .byte3 .ensures .0,
+      c .before .before .before .before .byte2 .ensures .0,
+      c .before .before .before .before .before .byte .ensures .0,
+    ))
 
 pub commitment-spec : {M : Type 1} → statement M
 commitment-spec =

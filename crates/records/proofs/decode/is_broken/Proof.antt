@@ -15,7 +15,11 @@ pair-requires c κs = search needs
 
 returns-2 : tie.Need-returns-2
 unfolding isBroken
-returns-2 c = simp (le-ltb _ _ (c .before .before .if1 .left), below-of refl (c .before .pair .ensures .0) (c .if2 .taken))
+returns-2 c =
+    simp (
+      le-ltb _ _ (c .before .before .if1 .left),
+      below-of refl (c .before .pair .ensures .0) (c .if2 .taken),
+    )
 
 cast-result : tie.Need-cast-result
 cast-result c = search needs
@@ -25,7 +29,12 @@ add-result c = search needs
 
 returns-3 : tie.Need-returns-3
 unfolding isBroken
-returns-3 c = simp (le-ltb _ _ (c .before .before .if1 .left), not-below-of refl (c .before .pair .ensures .0) (c .if2 .left), c .before .pair .ensures .0)
+returns-3 c =
+    simp (
+      le-ltb _ _ (c .before .before .if1 .left),
+      not-below-of refl (c .before .pair .ensures .0) (c .if2 .left),
+      c .before .pair .ensures .0,
+    )
 
 pub is-broken-spec : {M : Type 1} → statement M
 is-broken-spec =

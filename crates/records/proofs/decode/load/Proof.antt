@@ -17,7 +17,12 @@ quad-requires : tie.Need-quad-requires
 quad-requires c κs = search needs
 
 returns-2 : tie.Need-returns-2
-returns-2 c = of-length loadFormat _ (c .before .before .before .before .before .pre) (c .before .before .before .if1 .left) (simp (c .quad .ensures, c .before .byte2 .ensures .0, c .before .before .byte .ensures .0))
+returns-2 c =
+    of-length loadFormat _ (c .before .before .before .before .before .pre) (c .before .before .before .if1 .left) (simp (
+      c .quad .ensures,
+      c .before .byte2 .ensures .0,
+      c .before .before .byte .ensures .0,
+    ))
 
 pub load-spec : {M : Type 1} → statement M
 load-spec = tie.close (tie.spec returns byte-requires byte-requires-2 quad-requires returns-2)

@@ -19,7 +19,11 @@ within-requires c κs = search needs
 
 returns-2 : tie.Need-returns-2
 unfolding areaFits
-returns-2 c = simp (c .within .ensures, kept (c .before .before .before .is-area .ensures) (c .before .before .if1 .left))
+returns-2 c =
+    simp (
+      c .within .ensures,
+      kept (c .before .before .before .is-area .ensures) (c .before .before .if1 .left),
+    )
 
 pub area-fits-spec : {M : Type 1} → statement M
 area-fits-spec =

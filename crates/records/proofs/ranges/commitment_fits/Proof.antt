@@ -21,25 +21,47 @@ is-unit-requires c κs = search needs
 
 returns-2 : tie.Need-returns-2
 unfolding commitmentFits
-returns-2 c = simp (dropped (c .before .is-unit .ensures) (c .if2 .taken), kept (c .before .before .before .within .ensures) (c .before .before .if1 .left))
+returns-2 c =
+    simp (
+      dropped (c .before .is-unit .ensures) (c .if2 .taken),
+      kept (c .before .before .before .within .ensures) (c .before .before .if1 .left),
+    )
 
 is-party-requires : tie.Need-is-party-requires
 is-party-requires c κs = search needs
 
 returns-3 : tie.Need-returns-3
 unfolding commitmentFits
-returns-3 c = simp (dropped (c .before .is-party .ensures) (c .if3 .taken), kept (c .before .before .before .is-unit .ensures) (c .before .before .if2 .left), kept (c .before .before .before .before .before .within .ensures) (c .before .before .before .before .if1 .left))
+returns-3 c =
+    simp (
+      dropped (c .before .is-party .ensures) (c .if3 .taken),
+      kept (c .before .before .before .is-unit .ensures) (c .before .before .if2 .left),
+      kept (c .before .before .before .before .before .within .ensures) (c .before .before .before .before .if1 .left),
+    )
 
 returns-4 : tie.Need-returns-4
 unfolding commitmentFits
-returns-4 c = simp (lt-leb _ _ (c .if4 .taken), kept (c .before .before .before .is-party .ensures) (c .before .before .if3 .left), kept (c .before .before .before .before .before .is-unit .ensures) (c .before .before .before .before .if2 .left), kept (c .before .before .before .before .before .before .before .within .ensures) (c .before .before .before .before .before .before .if1 .left))
+returns-4 c =
+    simp (
+      lt-leb _ _ (c .if4 .taken),
+      kept (c .before .before .before .is-party .ensures) (c .before .before .if3 .left),
+      kept (c .before .before .before .before .before .is-unit .ensures) (c .before .before .before .before .if2 .left),
+      kept (c .before .before .before .before .before .before .before .within .ensures) (c .before .before .before .before .before .before .if1 .left),
+    )
 
 delivery-days-requires : tie.Need-delivery-days-requires
 delivery-days-requires c κs = search needs
 
 returns-5 : tie.Need-returns-5
 unfolding commitmentFits
-returns-5 c = simp (not-below-of refl (c .before .before .delivery-days .ensures) (c .if5 .taken), le-leb _ _ (c .before .before .before .if4 .left), kept (c .before .before .before .before .before .before .is-party .ensures) (c .before .before .before .before .before .if3 .left), kept (c .before .before .before .before .before .before .before .before .is-unit .ensures) (c .before .before .before .before .before .before .before .if2 .left), kept (c .before .before .before .before .before .before .before .before .before .before .within .ensures) (c .before .before .before .before .before .before .before .before .before .if1 .left))
+returns-5 c =
+    simp (
+      not-below-of refl (c .before .before .delivery-days .ensures) (c .if5 .taken),
+      le-leb _ _ (c .before .before .before .if4 .left),
+      kept (c .before .before .before .before .before .before .is-party .ensures) (c .before .before .before .before .before .if3 .left),
+      kept (c .before .before .before .before .before .before .before .before .is-unit .ensures) (c .before .before .before .before .before .before .before .if2 .left),
+      kept (c .before .before .before .before .before .before .before .before .before .before .within .ensures) (c .before .before .before .before .before .before .before .before .before .if1 .left),
+    )
 
 cast-within-2 : tie.Need-cast-within-2
 cast-within-2 c = search needs
@@ -49,7 +71,15 @@ within-requires-2 c κs = search needs
 
 returns-6 : tie.Need-returns-6
 unfolding commitmentFits
-returns-6 c = simp (c .within2 .ensures, below-of refl (c .before .before .before .before .delivery-days .ensures) (c .before .before .if5 .left), le-leb _ _ (c .before .before .before .before .before .if4 .left), kept (c .before .before .before .before .before .before .before .before .is-party .ensures) (c .before .before .before .before .before .before .before .if3 .left), kept (c .before .before .before .before .before .before .before .before .before .before .is-unit .ensures) (c .before .before .before .before .before .before .before .before .before .if2 .left), kept (c .before .before .before .before .before .before .before .before .before .before .before .before .within .ensures) (c .before .before .before .before .before .before .before .before .before .before .before .if1 .left))
+returns-6 c =
+    simp (
+      c .within2 .ensures,
+      below-of refl (c .before .before .before .before .delivery-days .ensures) (c .before .before .if5 .left),
+      le-leb _ _ (c .before .before .before .before .before .if4 .left),
+      kept (c .before .before .before .before .before .before .before .before .is-party .ensures) (c .before .before .before .before .before .before .before .if3 .left),
+      kept (c .before .before .before .before .before .before .before .before .before .before .is-unit .ensures) (c .before .before .before .before .before .before .before .before .before .if2 .left),
+      kept (c .before .before .before .before .before .before .before .before .before .before .before .before .within .ensures) (c .before .before .before .before .before .before .before .before .before .before .before .if1 .left),
+    )
 
 pub commitment-fits-spec : {M : Type 1} → statement M
 commitment-fits-spec =

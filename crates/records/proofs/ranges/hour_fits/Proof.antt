@@ -16,7 +16,11 @@ is-delivery-date-requires c κs = search needs
 
 returns-2 : tie.Need-returns-2
 unfolding hourFits
-returns-2 c = simp (dropped (c .before .is-delivery-date .ensures) (c .if2 .taken), kept (c .before .before .before .is-unit .ensures) (c .before .before .if1 .left))
+returns-2 c =
+    simp (
+      dropped (c .before .is-delivery-date .ensures) (c .if2 .taken),
+      kept (c .before .before .before .is-unit .ensures) (c .before .before .if1 .left),
+    )
 
 cast-within : tie.Need-cast-within
 cast-within c = search needs
@@ -26,7 +30,12 @@ within-requires c κs = search needs
 
 returns-3 : tie.Need-returns-3
 unfolding hourFits
-returns-3 c = simp (dropped (c .before .within .ensures) (c .if3 .taken), kept (c .before .before .before .before .is-delivery-date .ensures) (c .before .before .before .if2 .left), kept (c .before .before .before .before .before .before .is-unit .ensures) (c .before .before .before .before .before .if1 .left))
+returns-3 c =
+    simp (
+      dropped (c .before .within .ensures) (c .if3 .taken),
+      kept (c .before .before .before .before .is-delivery-date .ensures) (c .before .before .before .if2 .left),
+      kept (c .before .before .before .before .before .before .is-unit .ensures) (c .before .before .before .before .before .if1 .left),
+    )
 
 cast-within-2 : tie.Need-cast-within-2
 cast-within-2 c = search needs
@@ -36,14 +45,27 @@ within-requires-2 c κs = search needs
 
 returns-4 : tie.Need-returns-4
 unfolding hourFits
-returns-4 c = simp (dropped (c .before .within2 .ensures) (c .if4 .taken), kept (c .before .before .before .before .within .ensures) (c .before .before .before .if3 .left), kept (c .before .before .before .before .before .before .before .is-delivery-date .ensures) (c .before .before .before .before .before .before .if2 .left), kept (c .before .before .before .before .before .before .before .before .before .is-unit .ensures) (c .before .before .before .before .before .before .before .before .if1 .left))
+returns-4 c =
+    simp (
+      dropped (c .before .within2 .ensures) (c .if4 .taken),
+      kept (c .before .before .before .before .within .ensures) (c .before .before .before .if3 .left),
+      kept (c .before .before .before .before .before .before .before .is-delivery-date .ensures) (c .before .before .before .before .before .before .if2 .left),
+      kept (c .before .before .before .before .before .before .before .before .before .is-unit .ensures) (c .before .before .before .before .before .before .before .before .if1 .left),
+    )
 
 derating-fits-requires : tie.Need-derating-fits-requires
 derating-fits-requires c κs = search needs
 
 returns-5 : tie.Need-returns-5
 unfolding hourFits
-returns-5 c = simp (c .derating-fits .ensures, kept (c .before .before .within2 .ensures) (c .before .if4 .left), kept (c .before .before .before .before .before .within .ensures) (c .before .before .before .before .if3 .left), kept (c .before .before .before .before .before .before .before .before .is-delivery-date .ensures) (c .before .before .before .before .before .before .before .if2 .left), kept (c .before .before .before .before .before .before .before .before .before .before .is-unit .ensures) (c .before .before .before .before .before .before .before .before .before .if1 .left))
+returns-5 c =
+    simp (
+      c .derating-fits .ensures,
+      kept (c .before .before .within2 .ensures) (c .before .if4 .left),
+      kept (c .before .before .before .before .before .within .ensures) (c .before .before .before .before .if3 .left),
+      kept (c .before .before .before .before .before .before .before .before .is-delivery-date .ensures) (c .before .before .before .before .before .before .before .if2 .left),
+      kept (c .before .before .before .before .before .before .before .before .before .before .is-unit .ensures) (c .before .before .before .before .before .before .before .before .before .if1 .left),
+    )
 
 pub hour-fits-spec : {M : Type 1} → statement M
 hour-fits-spec =

@@ -16,7 +16,11 @@ is-party-requires c κs = search needs
 
 returns-2 : tie.Need-returns-2
 unfolding loadFits
-returns-2 c = simp (dropped (c .before .is-party .ensures) (c .if2 .taken), kept (c .before .before .before .is-area .ensures) (c .before .before .if1 .left))
+returns-2 c =
+    simp (
+      dropped (c .before .is-party .ensures) (c .if2 .taken),
+      kept (c .before .before .before .is-area .ensures) (c .before .before .if1 .left),
+    )
 
 cast-within : tie.Need-cast-within
 cast-within c = search needs
@@ -26,7 +30,12 @@ within-requires c κs = search needs
 
 returns-3 : tie.Need-returns-3
 unfolding loadFits
-returns-3 c = simp (c .within .ensures, kept (c .before .before .before .is-party .ensures) (c .before .before .if2 .left), kept (c .before .before .before .before .before .is-area .ensures) (c .before .before .before .before .if1 .left))
+returns-3 c =
+    simp (
+      c .within .ensures,
+      kept (c .before .before .before .is-party .ensures) (c .before .before .if2 .left),
+      kept (c .before .before .before .before .before .is-area .ensures) (c .before .before .before .before .if1 .left),
+    )
 
 pub load-fits-spec : {M : Type 1} → statement M
 load-fits-spec =

@@ -18,7 +18,11 @@ is-area-requires c κs = search needs
 
 returns-2 : tie.Need-returns-2
 unfolding unitFits
-returns-2 c = simp (dropped (c .before .is-area .ensures) (c .if2 .taken), kept (c .before .before .before .is-unit .ensures) (c .before .before .if1 .left))
+returns-2 c =
+    simp (
+      dropped (c .before .is-area .ensures) (c .if2 .taken),
+      kept (c .before .before .before .is-unit .ensures) (c .before .before .if1 .left),
+    )
 
 watts-requires : tie.Need-watts-requires
 watts-requires c κs = search needs
@@ -28,28 +32,54 @@ within-requires c κs = search needs
 
 returns-3 : tie.Need-returns-3
 unfolding unitFits
-returns-3 c = simp (dropped (c .before .within .ensures ∙ ap (within 1 5000000) (c .before .before .watts .ensures)) (c .if3 .taken), kept (c .before .before .before .before .before .is-area .ensures) (c .before .before .before .before .if2 .left), kept (c .before .before .before .before .before .before .before .is-unit .ensures) (c .before .before .before .before .before .before .if1 .left))
+returns-3 c =
+    simp (
+      dropped (c .before .within .ensures ∙ ap (within 1 5000000) (c .before .before .watts .ensures)) (c .if3 .taken),
+      kept (c .before .before .before .before .before .is-area .ensures) (c .before .before .before .before .if2 .left),
+      kept (c .before .before .before .before .before .before .before .is-unit .ensures) (c .before .before .before .before .before .before .if1 .left),
+    )
 
 is-rate-requires : tie.Need-is-rate-requires
 is-rate-requires c κs = search needs
 
 returns-4 : tie.Need-returns-4
 unfolding unitFits
-returns-4 c = simp (dropped (c .before .is-rate .ensures) (c .if4 .taken), kept (c .before .before .before .within .ensures ∙ ap (within 1 5000000) (c .before .before .before .before .watts .ensures)) (c .before .before .if3 .left), kept (c .before .before .before .before .before .before .before .is-area .ensures) (c .before .before .before .before .before .before .if2 .left), kept (c .before .before .before .before .before .before .before .before .before .is-unit .ensures) (c .before .before .before .before .before .before .before .before .if1 .left))
+returns-4 c =
+    simp (
+      dropped (c .before .is-rate .ensures) (c .if4 .taken),
+      kept (c .before .before .before .within .ensures ∙ ap (within 1 5000000) (c .before .before .before .before .watts .ensures)) (c .before .before .if3 .left),
+      kept (c .before .before .before .before .before .before .before .is-area .ensures) (c .before .before .before .before .before .before .if2 .left),
+      kept (c .before .before .before .before .before .before .before .before .before .is-unit .ensures) (c .before .before .before .before .before .before .before .before .if1 .left),
+    )
 
 is-rate-requires-2 : tie.Need-is-rate-requires-2
 is-rate-requires-2 c κs = search needs
 
 returns-5 : tie.Need-returns-5
 unfolding unitFits
-returns-5 c = simp (dropped (c .before .is-rate2 .ensures) (c .if5 .taken), kept (c .before .before .before .is-rate .ensures) (c .before .before .if4 .left), kept (c .before .before .before .before .before .within .ensures ∙ ap (within 1 5000000) (c .before .before .before .before .before .before .watts .ensures)) (c .before .before .before .before .if3 .left), kept (c .before .before .before .before .before .before .before .before .before .is-area .ensures) (c .before .before .before .before .before .before .before .before .if2 .left), kept (c .before .before .before .before .before .before .before .before .before .before .before .is-unit .ensures) (c .before .before .before .before .before .before .before .before .before .before .if1 .left))
+returns-5 c =
+    simp (
+      dropped (c .before .is-rate2 .ensures) (c .if5 .taken),
+      kept (c .before .before .before .is-rate .ensures) (c .before .before .if4 .left),
+      kept (c .before .before .before .before .before .within .ensures ∙ ap (within 1 5000000) (c .before .before .before .before .before .before .watts .ensures)) (c .before .before .before .before .if3 .left),
+      kept (c .before .before .before .before .before .before .before .before .before .is-area .ensures) (c .before .before .before .before .before .before .before .before .if2 .left),
+      kept (c .before .before .before .before .before .before .before .before .before .before .before .is-unit .ensures) (c .before .before .before .before .before .before .before .before .before .before .if1 .left),
+    )
 
 is-rate-requires-3 : tie.Need-is-rate-requires-3
 is-rate-requires-3 c κs = search needs
 
 returns-6 : tie.Need-returns-6
 unfolding unitFits
-returns-6 c = simp (dropped (c .before .is-rate3 .ensures) (c .if6 .taken), kept (c .before .before .before .is-rate2 .ensures) (c .before .before .if5 .left), kept (c .before .before .before .before .before .is-rate .ensures) (c .before .before .before .before .if4 .left), kept (c .before .before .before .before .before .before .before .within .ensures ∙ ap (within 1 5000000) (c .before .before .before .before .before .before .before .before .watts .ensures)) (c .before .before .before .before .before .before .if3 .left), kept (c .before .before .before .before .before .before .before .before .before .before .before .is-area .ensures) (c .before .before .before .before .before .before .before .before .before .before .if2 .left), kept (c .before .before .before .before .before .before .before .before .before .before .before .before .before .is-unit .ensures) (c .before .before .before .before .before .before .before .before .before .before .before .before .if1 .left))
+returns-6 c =
+    simp (
+      dropped (c .before .is-rate3 .ensures) (c .if6 .taken),
+      kept (c .before .before .before .is-rate2 .ensures) (c .before .before .if5 .left),
+      kept (c .before .before .before .before .before .is-rate .ensures) (c .before .before .before .before .if4 .left),
+      kept (c .before .before .before .before .before .before .before .within .ensures ∙ ap (within 1 5000000) (c .before .before .before .before .before .before .before .before .watts .ensures)) (c .before .before .before .before .before .before .if3 .left),
+      kept (c .before .before .before .before .before .before .before .before .before .before .before .is-area .ensures) (c .before .before .before .before .before .before .before .before .before .before .if2 .left),
+      kept (c .before .before .before .before .before .before .before .before .before .before .before .before .before .is-unit .ensures) (c .before .before .before .before .before .before .before .before .before .before .before .before .if1 .left),
+    )
 
 cast-within : tie.Need-cast-within
 cast-within c = search needs
@@ -59,7 +89,16 @@ within-requires-2 c κs = search needs
 
 returns-7 : tie.Need-returns-7
 unfolding unitFits
-returns-7 c = simp (c .within2 .ensures, kept (c .before .before .before .is-rate3 .ensures) (c .before .before .if6 .left), kept (c .before .before .before .before .before .is-rate2 .ensures) (c .before .before .before .before .if5 .left), kept (c .before .before .before .before .before .before .before .is-rate .ensures) (c .before .before .before .before .before .before .if4 .left), kept (c .before .before .before .before .before .before .before .before .before .within .ensures ∙ ap (within 1 5000000) (c .before .before .before .before .before .before .before .before .before .before .watts .ensures)) (c .before .before .before .before .before .before .before .before .if3 .left), kept (c .before .before .before .before .before .before .before .before .before .before .before .before .before .is-area .ensures) (c .before .before .before .before .before .before .before .before .before .before .before .before .if2 .left), kept (c .before .before .before .before .before .before .before .before .before .before .before .before .before .before .before .is-unit .ensures) (c .before .before .before .before .before .before .before .before .before .before .before .before .before .before .if1 .left))
+returns-7 c =
+    simp (
+      c .within2 .ensures,
+      kept (c .before .before .before .is-rate3 .ensures) (c .before .before .if6 .left),
+      kept (c .before .before .before .before .before .is-rate2 .ensures) (c .before .before .before .before .if5 .left),
+      kept (c .before .before .before .before .before .before .before .is-rate .ensures) (c .before .before .before .before .before .before .if4 .left),
+      kept (c .before .before .before .before .before .before .before .before .before .within .ensures ∙ ap (within 1 5000000) (c .before .before .before .before .before .before .before .before .before .before .watts .ensures)) (c .before .before .before .before .before .before .before .before .if3 .left),
+      kept (c .before .before .before .before .before .before .before .before .before .before .before .before .before .is-area .ensures) (c .before .before .before .before .before .before .before .before .before .before .before .before .if2 .left),
+      kept (c .before .before .before .before .before .before .before .before .before .before .before .before .before .before .before .is-unit .ensures) (c .before .before .before .before .before .before .before .before .before .before .before .before .before .before .if1 .left),
+    )
 
 pub unit-fits-spec : {M : Type 1} → statement M
 unit-fits-spec =

@@ -14,15 +14,29 @@ commitment-fits-requires c κs = search needs
 
 returns-2 : tie.Need-returns-2
 unfolding refusalOf
-returns-2 c = simp (dropped (c .before .commitment-fits .ensures) (c .if2 .taken), ne-eqb _ _ (c .before .before .if1 .left))
+returns-2 c =
+    simp (
+      dropped (c .before .commitment-fits .ensures) (c .if2 .taken),
+      ne-eqb _ _ (c .before .before .if1 .left),
+    )
 
 returns-3 : tie.Need-returns-3
 unfolding refusalOf
-returns-3 c = simp (c .if3 .taken, kept (c .before .before .before .commitment-fits .ensures) (c .before .before .if2 .left), ne-eqb _ _ (c .before .before .before .before .if1 .left))
+returns-3 c =
+    simp (
+      c .if3 .taken,
+      kept (c .before .before .before .commitment-fits .ensures) (c .before .before .if2 .left),
+      ne-eqb _ _ (c .before .before .before .before .if1 .left),
+    )
 
 returns-4 : tie.Need-returns-4
 unfolding refusalOf
-returns-4 c = simp (c .if3 .left, kept (c .before .before .before .commitment-fits .ensures) (c .before .before .if2 .left), ne-eqb _ _ (c .before .before .before .before .if1 .left))
+returns-4 c =
+    simp (
+      c .if3 .left,
+      kept (c .before .before .before .commitment-fits .ensures) (c .before .before .if2 .left),
+      ne-eqb _ _ (c .before .before .before .before .if1 .left),
+    )
 
 pub commitment-spec : {M : Type 1} → statement M
 commitment-spec =

@@ -19,25 +19,50 @@ returns-2 c = simp (dropped (c .before .hour-fits .ensures) (c .if2 .taken), ne-
 
 returns-3 : tie.Need-returns-3
 unfolding refusalOf
-returns-3 c = simp (c .if3 .taken, kept (c .before .before .before .hour-fits .ensures) (c .before .before .if2 .left), ne-eqb _ _ (c .before .before .before .before .if1 .left))
+returns-3 c =
+    simp (
+      c .if3 .taken,
+      kept (c .before .before .before .hour-fits .ensures) (c .before .before .if2 .left),
+      ne-eqb _ _ (c .before .before .before .before .if1 .left),
+    )
 
 derated-out-requires : tie.Need-derated-out-requires
 derated-out-requires c κs = search needs
 
 returns-4 : tie.Need-returns-4
 unfolding refusalOf
-returns-4 c = simp (flag (c .before .derated-out .ensures) (c .if4 .taken), c .before .before .if3 .left, kept (c .before .before .before .before .before .hour-fits .ensures) (c .before .before .before .before .if2 .left), ne-eqb _ _ (c .before .before .before .before .before .before .if1 .left))
+returns-4 c =
+    simp (
+      flag (c .before .derated-out .ensures) (c .if4 .taken),
+      c .before .before .if3 .left,
+      kept (c .before .before .before .before .before .hour-fits .ensures) (c .before .before .before .before .if2 .left),
+      ne-eqb _ _ (c .before .before .before .before .before .before .if1 .left),
+    )
 
 hour-index-requires : tie.Need-hour-index-requires
 hour-index-requires c κs = search needs
 
 returns-5 : tie.Need-returns-5
 unfolding refusalOf
-returns-5 c = simp (at-most-of (c .before .before .hour-index .ensures) refl (c .if5 .taken), flag (c .before .before .before .before .derated-out .ensures) (c .before .before .before .if4 .left), c .before .before .before .before .before .if3 .left, kept (c .before .before .before .before .before .before .before .before .hour-fits .ensures) (c .before .before .before .before .before .before .before .if2 .left), ne-eqb _ _ (c .before .before .before .before .before .before .before .before .before .if1 .left))
+returns-5 c =
+    simp (
+      at-most-of (c .before .before .hour-index .ensures) refl (c .if5 .taken),
+      flag (c .before .before .before .before .derated-out .ensures) (c .before .before .before .if4 .left),
+      c .before .before .before .before .before .if3 .left,
+      kept (c .before .before .before .before .before .before .before .before .hour-fits .ensures) (c .before .before .before .before .before .before .before .if2 .left),
+      ne-eqb _ _ (c .before .before .before .before .before .before .before .before .before .if1 .left),
+    )
 
 returns-6 : tie.Need-returns-6
 unfolding refusalOf
-returns-6 c = simp (not-at-most-of (c .before .before .hour-index .ensures) refl (c .if5 .left), flag (c .before .before .before .before .derated-out .ensures) (c .before .before .before .if4 .left), c .before .before .before .before .before .if3 .left, kept (c .before .before .before .before .before .before .before .before .hour-fits .ensures) (c .before .before .before .before .before .before .before .if2 .left), ne-eqb _ _ (c .before .before .before .before .before .before .before .before .before .if1 .left))
+returns-6 c =
+    simp (
+      not-at-most-of (c .before .before .hour-index .ensures) refl (c .if5 .left),
+      flag (c .before .before .before .before .derated-out .ensures) (c .before .before .before .if4 .left),
+      c .before .before .before .before .before .if3 .left,
+      kept (c .before .before .before .before .before .before .before .before .hour-fits .ensures) (c .before .before .before .before .before .before .before .if2 .left),
+      ne-eqb _ _ (c .before .before .before .before .before .before .before .before .before .if1 .left),
+    )
 
 pub hour-spec : {M : Type 1} → statement M
 hour-spec =

@@ -18,11 +18,21 @@ returns-2 c = simp (dropped (c .before .load-fits .ensures) (c .if2 .taken), ne-
 
 returns-3 : tie.Need-returns-3
 unfolding refusalOf
-returns-3 c = simp (c .if3 .taken, kept (c .before .before .before .load-fits .ensures) (c .before .before .if2 .left), ne-eqb _ _ (c .before .before .before .before .if1 .left))
+returns-3 c =
+    simp (
+      c .if3 .taken,
+      kept (c .before .before .before .load-fits .ensures) (c .before .before .if2 .left),
+      ne-eqb _ _ (c .before .before .before .before .if1 .left),
+    )
 
 returns-4 : tie.Need-returns-4
 unfolding refusalOf
-returns-4 c = simp (c .if3 .left, kept (c .before .before .before .load-fits .ensures) (c .before .before .if2 .left), ne-eqb _ _ (c .before .before .before .before .if1 .left))
+returns-4 c =
+    simp (
+      c .if3 .left,
+      kept (c .before .before .before .load-fits .ensures) (c .before .before .if2 .left),
+      ne-eqb _ _ (c .before .before .before .before .if1 .left),
+    )
 
 pub load-spec : {M : Type 1} → statement M
 load-spec = tie.close (tie.spec returns load-fits-requires returns-2 returns-3 returns-4)

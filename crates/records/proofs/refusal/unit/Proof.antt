@@ -18,15 +18,32 @@ returns-2 c = simp (dropped (c .before .unit-fits .ensures) (c .if2 .taken), ne-
 
 returns-3 : tie.Need-returns-3
 unfolding refusalOf
-returns-3 c = simp (c .if3 .taken, kept (c .before .before .before .unit-fits .ensures) (c .before .before .if2 .left), ne-eqb _ _ (c .before .before .before .before .if1 .left))
+returns-3 c =
+    simp (
+      c .if3 .taken,
+      kept (c .before .before .before .unit-fits .ensures) (c .before .before .if2 .left),
+      ne-eqb _ _ (c .before .before .before .before .if1 .left),
+    )
 
 returns-4 : tie.Need-returns-4
 unfolding refusalOf
-returns-4 c = simp (c .if4 .taken, c .before .if3 .left, kept (c .before .before .before .before .unit-fits .ensures) (c .before .before .before .if2 .left), ne-eqb _ _ (c .before .before .before .before .before .if1 .left))
+returns-4 c =
+    simp (
+      c .if4 .taken,
+      c .before .if3 .left,
+      kept (c .before .before .before .before .unit-fits .ensures) (c .before .before .before .if2 .left),
+      ne-eqb _ _ (c .before .before .before .before .before .if1 .left),
+    )
 
 returns-5 : tie.Need-returns-5
 unfolding refusalOf
-returns-5 c = simp (c .if4 .left, c .before .if3 .left, kept (c .before .before .before .before .unit-fits .ensures) (c .before .before .before .if2 .left), ne-eqb _ _ (c .before .before .before .before .before .if1 .left))
+returns-5 c =
+    simp (
+      c .if4 .left,
+      c .before .if3 .left,
+      kept (c .before .before .before .before .unit-fits .ensures) (c .before .before .before .if2 .left),
+      ne-eqb _ _ (c .before .before .before .before .before .if1 .left),
+    )
 
 pub unit-spec : {M : Type 1} → statement M
 unit-spec = tie.close (tie.spec returns unit-fits-requires returns-2 returns-3 returns-4 returns-5)

@@ -16,7 +16,11 @@ pair-requires c κs = search needs
 
 returns-2 : tie.Need-returns-2
 unfolding nextRecord
-returns-2 c = simp (below-of refl (c .before .pair .ensures .0) (c .if2 .taken), le-ltb _ _ (c .before .before .if1 .left))
+returns-2 c =
+    simp (
+      below-of refl (c .before .pair .ensures .0) (c .if2 .taken),
+      le-ltb _ _ (c .before .before .if1 .left),
+    )
 
 cast-end : tie.Need-cast-end
 cast-end c = search needs
@@ -26,11 +30,22 @@ add-end c = search needs
 
 returns-3 : tie.Need-returns-3
 unfolding nextRecord
-returns-3 c = simp (below-of refl (ap (λ (n : ℕ). 3 + n) (c .before .before .pair .ensures .0)) (c .if3 .taken), not-below-of refl (c .before .before .pair .ensures .0) (c .before .if2 .left), le-ltb _ _ (c .before .before .before .if1 .left))
+returns-3 c =
+    simp (
+      below-of refl (ap (λ (n : ℕ). 3 + n) (c .before .before .pair .ensures .0)) (c .if3 .taken),
+      not-below-of refl (c .before .before .pair .ensures .0) (c .before .if2 .left),
+      le-ltb _ _ (c .before .before .before .if1 .left),
+    )
 
 returns-4 : tie.Need-returns-4
 unfolding nextRecord
-returns-4 c = simp (c .before .before .pair .ensures .0, not-below-of refl (ap (λ (n : ℕ). 3 + n) (c .before .before .pair .ensures .0)) (c .if3 .left), not-below-of refl (c .before .before .pair .ensures .0) (c .before .if2 .left), le-ltb _ _ (c .before .before .before .if1 .left))
+returns-4 c =
+    simp (
+      c .before .before .pair .ensures .0,
+      not-below-of refl (ap (λ (n : ℕ). 3 + n) (c .before .before .pair .ensures .0)) (c .if3 .left),
+      not-below-of refl (c .before .before .pair .ensures .0) (c .before .if2 .left),
+      le-ltb _ _ (c .before .before .before .if1 .left),
+    )
 
 pub next-record-spec : {M : Type 1} → statement M
 next-record-spec =
