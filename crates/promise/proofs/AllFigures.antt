@@ -14,6 +14,7 @@ use Rattle.records.specs.declared.format.Record.{Record}
 use Rattle.records.specs.declared.format.Record.the-variants.{Year, Area, Unit, Commitment, Load, Post}
 use Rattle.records.specs.Decoded.{isBroken, ofLength, framed, decoded}
 use Rattle.records.specs.Refusal.{areaFits, unitFits, commitmentFits, loadFits, refusalOf}
+use Rattle.records.specs.Rules.{place}
 use Rattle.promise.specs.Reckoning.{yearOf, latestArea, unitOf, latestCommitment, latestObligation, hoursOf, sumOver, lastIndex, factsOfList}
 use Rattle.promise.specs.Reckoning.{Answered, answersOf}
 use Rattle.promise.specs.Figures.{year, area, unit, commitment, load, post, Figure, settled, figureGiven}
@@ -30,7 +31,7 @@ abbrev after₄ : List Record
 after₄ = Unit unit₂ ∷ Unit unit₁ ∷ after₂
 
 entered-run : (ss : List (List ℕ)) {rest : List Answered} → answersOf unloaded ss ≡ rest → answersOf [] (entered ++ ss) ≡ enteredAnswers ++ rest
-unfolding numberAt isBroken ofLength framed decoded within leapYear deliveryDays areaFits unitFits commitmentFits refusalOf listBelow
+unfolding numberAt isBroken ofLength framed decoded within place leapYear deliveryDays areaFits unitFits commitmentFits refusalOf listBelow
     yearOf latestArea unitOf latestCommitment latestObligation hoursOf sumOver lastIndex factsOfList
 entered-run ss more =
     accepted-next (year 2010) (Year 2010) [] _ refl refl refl
@@ -41,7 +42,7 @@ entered-run ss more =
     (accepted-next (commitment 2 2 6 0 364 1000000) (Commitment commitment₂) (Commitment commitment₁ ∷ after₄) ss refl refl refl more)))))
 
 reckoned-figures : EachGiven figureGiven reckonedRows
-unfolding numberAt isBroken ofLength framed decoded within loadFits refusalOf listBelow yearOf latestArea factsOfList
+unfolding numberAt isBroken ofLength framed decoded within place loadFits refusalOf listBelow yearOf latestArea factsOfList
 reckoned-figures = (
   entered-run _
       (accepted-next (load 1 5 500000) (Load load₅) unloaded _ refl refl refl

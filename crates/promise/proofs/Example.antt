@@ -31,7 +31,7 @@ use Rattle.records.specs.declared.format.Record.{Record}
 use Rattle.records.specs.declared.format.Record.the-variants.{Year, Area, Unit, Commitment, Load, Post}
 use Rattle.records.specs.Facts.{Facts, noArea, noUnit, noCommitment}
 use Rattle.records.specs.Refusal.{refusalOf}
-use Rattle.records.specs.Rules.{asked}
+use Rattle.records.specs.Rules.{place, asked}
 use Rattle.records.specs.Dues.{unitFacts, wattDaysFor, partFor, shareIn, netIn, dueIn, unplacedIn}
 use Rattle.promise.specs.Reckoning.{yearOf, latestArea, unitOf, latestCommitment, latestObligation, hoursOf, sumOver, lastIndex, factsOfList}
 use Rattle.promise.specs.Reckoning.{reckonedDue, reckonedPaid, reckonedLine}
@@ -207,11 +207,11 @@ unplaced-unloaded =
 
 -- the number of Post 1
 post-loaded : refusalOf (asked (example (latestObligation loaded)) (Post 1)) (Post 1) ≡ 0
-unfolding within refusalOf
+unfolding within refusalOf place
 post-loaded = rw placed-loaded
 
 post-unloaded : refusalOf (asked (example (λ a p. 0)) (Post 1)) (Post 1) ≡ 11
-unfolding within refusalOf
+unfolding within refusalOf place
 post-unloaded = rw unplaced-unloaded
 
 pub first-number : refusalOf (asked (factsOfList loaded) (Post 1)) (Post 1) ≡ 0
