@@ -25,7 +25,7 @@ use Rattle.records.specs.Rules.{place, refusal}
 use Rattle.book.specs.declared.Unit as unit
 use Rattle.book.specs.declared.Book.{Book}
 use Rattle.book.specs.declared.Answer.{Answer}
-use Rattle.book.specs.Books.{factsOf, figuresOf, factsOfBook, noEntry, areaParty, postedIn}
+use Rattle.book.specs.Books.{factsOf, figuresOf, factsOfBook, emptyBook, Sound, noEntry, areaParty, postedIn}
 
 -- a unit as it is entered, without hours
 abbrev pub newUnit : UnitRecord → unit.Unit
@@ -141,3 +141,7 @@ entered b s =
 abbrev pub bookAfter : Book → List (List ℕ) → Book
 bookAfter b [] = b
 bookAfter b (s ∷ ss) = bookAfter (entered b s .book) ss
+
+-- every list of strings from the empty book leads to a sound one
+abbrev pub EveryBook : Type 0
+EveryBook = (ss : List (List ℕ)) → Sound (bookAfter emptyBook ss)

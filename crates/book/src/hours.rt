@@ -43,6 +43,9 @@ pub(crate) fn asked(year: u32, area: AreaRecord, unit: Unit) -> Asked
     }
 }
 
+// An hour, as SH and FOH count it.
+const HOUR: u64 = 1;
+
 // What an hour adds to SH, to FOH and to D.
 fn service_hour(peak: bool, h: HourRecord) -> u64
     ensures { λ r. ⌜ (r ≡ cond (peak && leb (h .kind) 2) 1 0) × (r ≤ 1) ⌝ }
@@ -51,7 +54,7 @@ fn service_hour(peak: bool, h: HourRecord) -> u64
         return 0;
     }
     if h.kind <= 2 {
-        return 1;
+        return HOUR;
     }
     0
 }
@@ -63,7 +66,7 @@ fn outage_hour(peak: bool, h: HourRecord) -> u64
         return 0;
     }
     if h.kind == 3 {
-        return 1;
+        return HOUR;
     }
     0
 }

@@ -176,4 +176,5 @@ impl Book {
 }
 
 mod hours;
+pub mod laws;
 mod money;

@@ -113,7 +113,9 @@ fn nets_with(
     ensures { λ r. ⌜ r ≡ netsWith nets u k commitments area days ⌝ }
 {
     let entry = u.entry;
-    if entry.area as usize != area + 1 {
+    let of = entry.area as usize;
+    let this = area + 1;
+    if of != this {
         return nets;
     }
     let parts = parts(commitments, k);
@@ -217,7 +219,8 @@ pub(crate) fn post(mut book: Book, area: usize) -> Answer
     }
     let dues = money.dues;
     let sums = book.posted;
-    let lines = lines(dues, earlier_lines(sums, area));
+    let earlier = earlier_lines(sums, area);
+    let lines = lines(dues, earlier);
     let paid = with_dues(sums, area, dues);
     book.posted = paid;
     Answer {

@@ -4,11 +4,11 @@ use Rattle.book.specs.Entered.{netsWith}
 use Rattle.book.proofs.money.nets_with.Statement.{statement}
 use Rattle.book.proofs.money.nets_with.Tie as tie
 
-cast-if1 : tie.Need-cast-if1
-cast-if1 c = search needs
+cast-of : tie.Need-cast-of
+cast-of c = search needs
 
-add-if1 : tie.Need-add-if1
-add-if1 c = search needs
+add-this : tie.Need-add-this
+add-this c = search needs
 
 returns : tie.Need-returns
 unfolding netsWith
@@ -41,8 +41,8 @@ pub nets-with-spec : {M : Type 1} → statement M
 nets-with-spec =
     tie.close
     (tie.spec
-    cast-if1
-    add-if1
+    cast-of
+    add-this
     returns
     parts-requires
     unit-facts-requires
