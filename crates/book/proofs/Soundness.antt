@@ -28,11 +28,13 @@ use Rattle.records.specs.declared.format.LoadRecord.{LoadRecord}
 use Rattle.records.specs.declared.format.Record.{Record}
 use Rattle.records.specs.declared.format.Record.the-variants.{Unframed, Year, Area, Unit, Commitment, Hour, Load, Post}
 use Rattle.records.specs.declared.refusal.Asked.{Asked}
-use Rattle.records.specs.Format.{Field, fits, yearYear, areaArea, areaPrice, unitUnit, unitArea, unitInstalled, unitE, unitF, unitG, unitClass, commitmentNumber, commitmentUnit, commitmentParty, commitmentWatts, hourUnit, hourEnding, loadArea, loadParty, loadObligation}
+use Rattle.records.specs.Format.{Field, fits, yearYear, areaArea, areaPrice, unitUnit, unitArea, unitInstalled, unitE, unitF}
+use Rattle.records.specs.Format.{unitG, unitClass, commitmentNumber, commitmentUnit, commitmentParty, commitmentWatts, hourUnit, hourEnding, loadArea, loadParty, loadObligation}
 use Rattle.records.specs.Decoded.{decoded}
 use Rattle.records.specs.Facts.{noArea, noCommitment}
 use Rattle.records.specs.Hours.{hourIndex, serviceHour, outageHour, deratedWatts, isPeak}
-use Rattle.records.specs.Refusal.{row, refusalOf, hasFault, noYear, secondYear, outOfRange, inRange, notEntered, secondUnit, deratedOut, notLater, areaFits, unitFits, commitmentFits, hourFits, loadFits}
+use Rattle.records.specs.Refusal.{row, refusalOf, hasFault, noYear, secondYear, outOfRange, inRange, notEntered}
+use Rattle.records.specs.Refusal.{secondUnit, deratedOut, notLater, areaFits, unitFits, commitmentFits, hourFits, loadFits}
 use Rattle.records.specs.Dues.{dueIn}
 use Rattle.records.specs.Rules.{place, asked, refusal}
 use Rattle.book.specs.declared.Unit as unit

@@ -3,7 +3,8 @@ use crate::format::HourRecord;
 use calendar::delivery_year::delivery_day;
 use calendar::delivery_year::is_delivery_peak;
 ghost use mathlib.Core.Path.{_≡_};
-ghost use Rattle.records.specs.Hours.{hourIndex, isPeak};
+ghost use Prim.Native.Nat.{_≤_, _<_, _^_};
+ghost use Rattle.records.specs.Hours.{hourIndex, isPeak, serviceHour, outageHour, deratedWatts};
 
 // Its place in delivery year y, by day and then hour ending.
 pub fn hour_index(year: u32, h: HourRecord) -> u64
@@ -12,8 +13,48 @@ pub fn hour_index(year: u32, h: HourRecord) -> u64
     delivery_day(year, h.month, h.day) as u64 * 24 + h.hour as u64
 }
 
-pub fn is_peak(year: u32, h: HourRecord) -> bool
+fn is_peak(year: u32, h: HourRecord) -> bool
     ensures { λ r. ⌜ r ≡ isPeak year h ⌝ }
 {
     is_delivery_peak(year, h.month, h.day, h.hour)
+}
+
+// An hour, as SH and FOH count it.
+const HOUR: u64 = 1;
+
+// What an hour adds to SH, to FOH and to D.
+pub fn service_hour(year: u32, h: HourRecord) -> u64
+    ensures { λ r. ⌜ (r ≡ serviceHour year h) × (r ≤ 1) ⌝ }
+{
+    if !is_peak(year, h) {
+        return 0;
+    }
+    if h.kind <= 2 {
+        return HOUR;
+    }
+    0
+}
+
+pub fn outage_hour(year: u32, h: HourRecord) -> u64
+    ensures { λ r. ⌜ (r ≡ outageHour year h) × (r ≤ 1) ⌝ }
+{
+    if !is_peak(year, h) {
+        return 0;
+    }
+    if h.kind == 3 {
+        return HOUR;
+    }
+    0
+}
+
+pub fn derated_watts(year: u32, h: HourRecord) -> u64
+    ensures { λ r. ⌜ (r ≡ deratedWatts year h) × (r < 2 ^ 32) ⌝ }
+{
+    if !is_peak(year, h) {
+        return 0;
+    }
+    if h.kind == 1 {
+        return h.derating as u64;
+    }
+    0
 }

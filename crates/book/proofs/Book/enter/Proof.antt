@@ -5,7 +5,8 @@ use Rattle.records.specs.Rules.{areaNamed, unitNamed}
 use Rattle.records.proofs.Named.{placed}
 use Rattle.book.specs.Entered.{postAnswer}
 use denote.Ref.{now}
-use Rattle.book.proofs.Answers.{number-is, refused, posted, entered-as, sound-answer, stored-area, stored-unit, stored-commitment, stored-hour, stored-load}
+use Rattle.book.proofs.Answers.{number-is, refused, posted, entered-as, sound-answer}
+use Rattle.book.proofs.Answers.{stored-area, stored-unit, stored-commitment, stored-hour, stored-load}
 use Rattle.book.proofs.Book.enter.Statement.{statement}
 use Rattle.book.proofs.Book.enter.Tie as tie
 
@@ -120,7 +121,9 @@ place-requires-2 : tie.Need-place-requires-2
 place-requires-2 c κs = search needs
 
 area-party-requires : tie.Need-area-party-requires
-area-party-requires c κs = (c .before .before .before .before .before .before .before .before .before .before .area-named .ensures .1, placed 16 _ (omega arith) (c .place2 .ensures))
+area-party-requires c κs =
+    let far = c .before .before .before .before .before .before in
+    (far .before .before .before .before .area-named .ensures .1, placed 16 _ (omega arith) (c .place2 .ensures))
 
 mul-self : tie.Need-mul-self
 mul-self c = search needs
@@ -145,94 +148,114 @@ no-lines-requires-8 c κs = search needs
 
 returns-2 : tie.Need-returns-2
 returns-2 c =
-    let start = c .before .before .before .before .before .before .before .before .before .before .before .before .before in
+    let far = c .before .before .before .before .before .before in
+    let further = far .before .before .before .before .before .before in
+    let start = further .before in
     let b = start .args .t1 in
-    let r = c .before .before .before .before .before .before .before .before .before .before .before .decode .result in
-    let known = c .before .before .before .before .before .before .before .before .before .before .before .decode .ensures in
-    let area = c .before .before .before .before .before .before .before .before .before .before .area-named .ensures .0 in
-    let unit = c .before .before .before .before .before .before .before .before .before .unit-named .ensures .0 in
-    let number = number-is b r area unit (c .before .before .before .before .before .before .asked .ensures) (c .before .before .before .before .before .refusal .ensures) in
+    let r = far .before .before .before .before .before .decode .result in
+    let known = far .before .before .before .before .before .decode .ensures in
+    let area = far .before .before .before .before .area-named .ensures .0 in
+    let unit = far .before .before .before .unit-named .ensures .0 in
+    let number = number-is b r area unit (far .asked .ensures) (c .before .before .before .before .before .refusal .ensures) in
     let match = c .before .before .r .given .1 in
     sound-answer b (now (start .args .bytes)) (start .pre)
     (entered-as b (now (start .args .bytes)) match known number (c .before .before .before .before .if1 .left) refl (c .no-lines2 .ensures) refl)
 
 returns-3 : tie.Need-returns-3
 returns-3 c =
-    let start = c .before .before .before .before .before .before .before .before .before .before .before .before .before in
+    let far = c .before .before .before .before .before .before in
+    let further = far .before .before .before .before .before .before in
+    let start = further .before in
     let b = start .args .t1 in
-    let r = c .before .before .before .before .before .before .before .before .before .before .before .decode .result in
-    let known = c .before .before .before .before .before .before .before .before .before .before .before .decode .ensures in
-    let area = c .before .before .before .before .before .before .before .before .before .before .area-named .ensures .0 in
-    let unit = c .before .before .before .before .before .before .before .before .before .unit-named .ensures .0 in
-    let number = number-is b r area unit (c .before .before .before .before .before .before .asked .ensures) (c .before .before .before .before .before .refusal .ensures) in
+    let r = far .before .before .before .before .before .decode .result in
+    let known = far .before .before .before .before .before .decode .ensures in
+    let area = far .before .before .before .before .area-named .ensures .0 in
+    let unit = far .before .before .before .unit-named .ensures .0 in
+    let number = number-is b r area unit (far .asked .ensures) (c .before .before .before .before .before .refusal .ensures) in
     let match = c .before .before .r2 .given .1 in
     sound-answer b (now (start .args .bytes)) (start .pre)
-    (entered-as b (now (start .args .bytes)) match known number (c .before .before .before .before .if1 .left) refl (c .no-lines3 .ensures) (stored-area b _ (area ∙ ap areaNamed match)))
+    (entered-as b (now (start .args .bytes)) match known number (c .before .before .before .before .if1 .left) refl (c .no-lines3 .ensures)
+    (stored-area b _ (area ∙ ap areaNamed match)))
 
 returns-4 : tie.Need-returns-4
 returns-4 c =
-    let start = c .before .before .before .before .before .before .before .before .before .before .before .before .before .before in
+    let far = c .before .before .before .before .before .before in
+    let further = far .before .before .before .before .before .before in
+    let start = further .before .before in
     let b = start .args .t1 in
-    let r = c .before .before .before .before .before .before .before .before .before .before .before .before .decode .result in
-    let known = c .before .before .before .before .before .before .before .before .before .before .before .before .decode .ensures in
-    let area = c .before .before .before .before .before .before .before .before .before .before .before .area-named .ensures .0 in
-    let unit = c .before .before .before .before .before .before .before .before .before .before .unit-named .ensures .0 in
-    let number = number-is b r area unit (c .before .before .before .before .before .before .before .asked .ensures) (c .before .before .before .before .before .before .refusal .ensures) in
+    let r = further .decode .result in
+    let known = further .decode .ensures in
+    let area = far .before .before .before .before .before .area-named .ensures .0 in
+    let unit = far .before .before .before .before .unit-named .ensures .0 in
+    let number = number-is b r area unit (far .before .asked .ensures) (far .refusal .ensures) in
     let match = c .before .before .before .r3 .given .1 in
     sound-answer b (now (start .args .bytes)) (start .pre)
-    (entered-as b (now (start .args .bytes)) match known number (c .before .before .before .before .before .if1 .left) refl (c .no-lines4 .ensures) (stored-unit b _ (unit ∙ ap unitNamed match) (c .before .new-unit .ensures)))
+    (entered-as b (now (start .args .bytes)) match known number (c .before .before .before .before .before .if1 .left) refl
+    (c .no-lines4 .ensures) (stored-unit b _ (unit ∙ ap unitNamed match) (c .before .new-unit .ensures)))
 
 returns-5 : tie.Need-returns-5
 returns-5 c =
-    let start = c .before .before .before .before .before .before .before .before .before .before .before .before .before .before in
+    let far = c .before .before .before .before .before .before in
+    let further = far .before .before .before .before .before .before in
+    let start = further .before .before in
     let b = start .args .t1 in
-    let r = c .before .before .before .before .before .before .before .before .before .before .before .before .decode .result in
-    let known = c .before .before .before .before .before .before .before .before .before .before .before .before .decode .ensures in
-    let area = c .before .before .before .before .before .before .before .before .before .before .before .area-named .ensures .0 in
-    let unit = c .before .before .before .before .before .before .before .before .before .before .unit-named .ensures .0 in
-    let number = number-is b r area unit (c .before .before .before .before .before .before .before .asked .ensures) (c .before .before .before .before .before .before .refusal .ensures) in
+    let r = further .decode .result in
+    let known = further .decode .ensures in
+    let area = far .before .before .before .before .before .area-named .ensures .0 in
+    let unit = far .before .before .before .before .unit-named .ensures .0 in
+    let number = number-is b r area unit (far .before .asked .ensures) (far .refusal .ensures) in
     let match = c .before .before .before .r4 .given .1 in
     sound-answer b (now (start .args .bytes)) (start .pre)
-    (entered-as b (now (start .args .bytes)) match known number (c .before .before .before .before .before .if1 .left) refl (c .no-lines5 .ensures) (stored-commitment b _ (c .before .place .ensures)))
+    (entered-as b (now (start .args .bytes)) match known number (c .before .before .before .before .before .if1 .left) refl
+    (c .no-lines5 .ensures) (stored-commitment b _ (c .before .place .ensures)))
 
 returns-6 : tie.Need-returns-6
 returns-6 c =
-    let start = c .before .before .before .before .before .before .before .before .before .before .before .before .before .before in
+    let far = c .before .before .before .before .before .before in
+    let further = far .before .before .before .before .before .before in
+    let start = further .before .before in
     let b = start .args .t1 in
-    let r = c .before .before .before .before .before .before .before .before .before .before .before .before .decode .result in
-    let known = c .before .before .before .before .before .before .before .before .before .before .before .before .decode .ensures in
-    let area = c .before .before .before .before .before .before .before .before .before .before .before .area-named .ensures .0 in
-    let unit = c .before .before .before .before .before .before .before .before .before .before .unit-named .ensures .0 in
-    let number = number-is b r area unit (c .before .before .before .before .before .before .before .asked .ensures) (c .before .before .before .before .before .before .refusal .ensures) in
+    let r = further .decode .result in
+    let known = further .decode .ensures in
+    let area = far .before .before .before .before .before .area-named .ensures .0 in
+    let unit = far .before .before .before .before .unit-named .ensures .0 in
+    let number = number-is b r area unit (far .before .asked .ensures) (far .refusal .ensures) in
     let match = c .before .before .before .r5 .given .1 in
     sound-answer b (now (start .args .bytes)) (start .pre)
-    (entered-as b (now (start .args .bytes)) match known number (c .before .before .before .before .before .if1 .left) refl (c .no-lines6 .ensures) (stored-hour b _ (unit ∙ ap unitNamed match) (c .before .with-hour .ensures)))
+    (entered-as b (now (start .args .bytes)) match known number (c .before .before .before .before .before .if1 .left) refl
+    (c .no-lines6 .ensures) (stored-hour b _ (unit ∙ ap unitNamed match) (c .before .with-hour .ensures)))
 
 returns-7 : tie.Need-returns-7
 returns-7 c =
-    let start = c .before .before .before .before .before .before .before .before .before .before .before .before .before .before .before in
+    let far = c .before .before .before .before .before .before in
+    let further = far .before .before .before .before .before .before in
+    let start = further .before .before .before in
     let b = start .args .t1 in
-    let r = c .before .before .before .before .before .before .before .before .before .before .before .before .before .decode .result in
-    let known = c .before .before .before .before .before .before .before .before .before .before .before .before .before .decode .ensures in
-    let area = c .before .before .before .before .before .before .before .before .before .before .before .before .area-named .ensures .0 in
-    let unit = c .before .before .before .before .before .before .before .before .before .before .before .unit-named .ensures .0 in
-    let number = number-is b r area unit (c .before .before .before .before .before .before .before .before .asked .ensures) (c .before .before .before .before .before .before .before .refusal .ensures) in
+    let r = further .before .decode .result in
+    let known = further .before .decode .ensures in
+    let area = further .area-named .ensures .0 in
+    let unit = far .before .before .before .before .before .unit-named .ensures .0 in
+    let number = number-is b r area unit (far .before .before .asked .ensures) (far .before .refusal .ensures) in
     let match = c .before .before .before .before .r6 .given .1 in
     sound-answer b (now (start .args .bytes)) (start .pre)
-    (entered-as b (now (start .args .bytes)) match known number (c .before .before .before .before .before .before .if1 .left) refl (c .no-lines7 .ensures) (stored-load b _ (area ∙ ap areaNamed match) (c .before .before .place2 .ensures) (c .before .area-party .ensures .0)))
+    (entered-as b (now (start .args .bytes)) match known number (far .if1 .left) refl (c .no-lines7 .ensures) (stored-load b _ (area
+    ∙ ap areaNamed match) (c .before .before .place2 .ensures) (c .before .area-party .ensures .0)))
 
 returns-8 : tie.Need-returns-8
 returns-8 c =
-    let start = c .before .before .before .before .before .before .before .before .before .before .before .before in
+    let far = c .before .before .before .before .before .before in
+    let further = far .before .before .before .before .before .before in
+    let start = further in
     let b = start .args .t1 in
-    let r = c .before .before .before .before .before .before .before .before .before .before .decode .result in
-    let known = c .before .before .before .before .before .before .before .before .before .before .decode .ensures in
-    let area = c .before .before .before .before .before .before .before .before .before .area-named .ensures .0 in
-    let unit = c .before .before .before .before .before .before .before .before .unit-named .ensures .0 in
+    let r = far .before .before .before .before .decode .result in
+    let known = far .before .before .before .before .decode .ensures in
+    let area = far .before .before .before .area-named .ensures .0 in
+    let unit = far .before .before .unit-named .ensures .0 in
     let number = number-is b r area unit (c .before .before .before .before .before .asked .ensures) (c .before .before .before .before .refusal .ensures) in
     let match = c .before .enum-told .given .1 in
     sound-answer b (now (start .args .bytes)) (start .pre)
-    (posted b (now (start .args .bytes)) known match number (c .before .before .before .if1 .left) (c .post .ensures ∙ ap (postAnswer b) (area ∙ ap areaNamed match)))
+    (posted b (now (start .args .bytes)) known match number (c .before .before .before .if1 .left) (c .post .ensures ∙ ap (postAnswer b) (area
+    ∙ ap areaNamed match)))
 
 returns-9 : tie.Need-returns-9
 returns-9 c =

@@ -51,16 +51,19 @@ loop-less c = search needs
 
 loop-again : tie.Need-loop-again Inv-loop μ-loop
 loop-again c =
-    let start = c .before .before .before .before .before .before in
+    let far = c .before .before .before .before .before .before in
+    let start = far in
     let inv = c .before .before .before .loop .inv in (
       omega arith,
-      nets-more (start .args .year) (start .args .t2) (start .args .commitments) (start .args .area) _ (start .pre .0) (start .pre .1) (omega arith) (inv .1) (c .before .before .before .before .before .delivery-days .ensures) (c .nets-with .ensures),
+      nets-more (start .args .year) (start .args .t2) (start .args .commitments) (start .args .area) _ (start .pre .0) (start .pre .1)
+          (omega arith) (inv .1) (c .before .before .before .before .before .delivery-days .ensures) (c .nets-with .ensures),
     )
 
 returns : tie.Need-returns Inv-loop μ-loop
 returns c =
     let start = c .before .before .before .before in
-    nets-done (factsOf (start .args .year) [] (start .args .t2) (start .args .commitments) []) (start .args .area) (c .before .loop .inv .0) (omega arith) (c .before .loop .inv .1)
+    nets-done (factsOf (start .args .year) [] (start .args .t2) (start .args .commitments) []) (start .args .area) (c .before .loop .inv .0)
+    (omega arith) (c .before .loop .inv .1)
 
 pub area-nets-spec : {M : Type 1} → statement M
 area-nets-spec =

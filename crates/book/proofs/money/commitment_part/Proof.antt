@@ -35,8 +35,9 @@ watt-days-requires c κs = search needs
 
 returns-3 : tie.Need-returns-3
 returns-3 c =
-    let start = c .before .before .before .before .before .before .before .before in
-    own-part _ _ _ (start .pre .0) (c .before .before .before .before .before .before .if1 .left) (c .before .before .before .before .if2 .left) (c .watt-days .ensures)
+    let far = c .before .before .before .before .before .before in
+    let start = far .before .before in
+    own-part _ _ _ (start .pre .0) (far .if1 .left) (c .before .before .before .before .if2 .left) (c .watt-days .ensures)
 
 pub commitment-part-spec : {M : Type 1} → statement M
 commitment-part-spec =

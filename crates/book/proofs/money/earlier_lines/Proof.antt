@@ -43,7 +43,8 @@ loop-less c = search needs
 
 loop-again : tie.Need-loop-again Inv-loop μ-loop
 loop-again c =
-    filled-more (c .before .before .before .loop .inv) (omega arith) (posted-at (c .before .before .before .before .before .args .t1) (c .before .before .before .before .before .args .area) _ (c .before .area-party .ensures .0))
+    filled-more (c .before .before .before .loop .inv) (omega arith) (posted-at (c .before .before .before .before .before .args .t1)
+    (c .before .before .before .before .before .args .area) _ (c .before .area-party .ensures .0))
 
 returns : tie.Need-returns Inv-loop μ-loop
 returns c = filled-all (c .before .loop .inv) (omega arith)

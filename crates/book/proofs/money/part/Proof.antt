@@ -47,7 +47,8 @@ loop-again c =
 
 returns : tie.Need-returns Inv-loop μ-loop
 returns c =
-    all-sum _ (c .before .loop .inv .0) (omega arith) (c .before .loop .inv .1) ∙ part-is (c .before .before .args .t1) (c .before .before .args .u) (c .before .before .args .p)
+    all-sum _ (c .before .loop .inv .0) (omega arith) (c .before .loop .inv .1) ∙ part-is (c .before .before .args .t1)
+    (c .before .before .args .u) (c .before .before .args .p)
 
 pub part-spec : {M : Type 1} → statement M
 part-spec =

@@ -34,9 +34,12 @@ no-lines-requires c κs = search needs
 
 returns : tie.Need-returns
 returns c =
-    let start = c .before .before .before .before .before .before .before .before .before .before .before in
+    let far = c .before .before .before .before .before .before in
+    let start = far .before .before .before .before .before in
     refused-post (start .args .t1) (start .args .area)
-    (money-is (start .args .t1) (start .args .area) (start .pre .0) (c .before .before .before .before .before .before .before .area-nets .ensures) (c .before .before .before .before .before .area-obligations .ensures) (c .before .before .before .before .delivery-days .ensures) (c .before .before .area-money .ensures))
+    (money-is (start .args .t1) (start .args .area) (start .pre .0) (far .before .area-nets .ensures)
+    (c .before .before .before .before .before .area-obligations .ensures) (c .before .before .before .before .delivery-days .ensures)
+    (c .before .before .area-money .ensures))
     (c .before .if1 .taken)
     (c .no-lines .ensures)
 
@@ -51,9 +54,12 @@ with-dues-requires c κs = search needs
 
 returns-2 : tie.Need-returns-2
 returns-2 c =
-    let start = c .before .before .before .before .before .before .before .before .before .before .before .before .before .before .before in
+    let far = c .before .before .before .before .before .before in
+    let further = far .before .before .before .before .before .before in
+    let start = further .before .before .before in
     accepted-post (start .args .t1) (start .args .area) (start .pre .0)
-    (money-is (start .args .t1) (start .args .area) (start .pre .0) (c .before .before .before .before .before .before .before .before .before .before .before .area-nets .ensures) (c .before .before .before .before .before .before .before .before .before .area-obligations .ensures) (c .before .before .before .before .before .before .before .before .delivery-days .ensures) (c .before .before .before .before .before .before .area-money .ensures))
+    (money-is (start .args .t1) (start .args .area) (start .pre .0) (far .before .before .before .before .before .area-nets .ensures)
+    (far .before .before .before .area-obligations .ensures) (far .before .before .delivery-days .ensures) (far .area-money .ensures))
     (c .before .before .before .before .before .if1 .left)
     (c .before .before .earlier-lines .ensures)
     (c .before .lines .ensures)

@@ -27,7 +27,8 @@ quad-requires c κs = search needs
 
 returns-2 : tie.Need-returns-2
 returns-2 c =
-    of-length commitmentFormat _ (c .before .before .before .before .before .before .before .before .pre) (c .before .before .before .before .before .before .if1 .left) (simp (
+    let far = c .before .before .before .before .before .before in
+    of-length commitmentFormat _ (far .before .before .pre) (far .if1 .left) (simp (
       c .quad .ensures,
       c .before .pair2 .ensures .0,
       c .before .before .pair .ensures .0,

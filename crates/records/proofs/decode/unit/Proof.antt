@@ -36,15 +36,16 @@ byte-requires-3 c κs = search needs
 
 returns-2 : tie.Need-returns-2
 returns-2 c =
-    of-length unitFormat _ (c .before .before .before .before .before .before .before .before .before .before .pre) (c .before .before .before .before .before .before .before .before .if1 .left) (simp (
+    let far = c .before .before .before .before .before .before in
+    of-length unitFormat _ (far .before .before .before .before .pre) (far .before .before .if1 .left) (simp (
       c .byte3 .ensures .0,
       c .before .quad4 .ensures,
       c .before .before .quad3 .ensures,
       c .before .before .before .quad2 .ensures,
       c .before .before .before .before .new .ensures,
       c .before .before .before .before .before .quad .ensures,
-      c .before .before .before .before .before .before .byte2 .ensures .0,
-      c .before .before .before .before .before .before .before .byte .ensures .0,
+      far .byte2 .ensures .0,
+      far .before .byte .ensures .0,
     ))
 
 pub unit-spec : {M : Type 1} → statement M

@@ -55,12 +55,13 @@ delivery-days-requires c κs = search needs
 returns-5 : tie.Need-returns-5
 unfolding commitmentFits
 returns-5 c =
+    let far = c .before .before .before .before .before .before in
     simp (
       not-below-of refl (c .before .before .delivery-days .ensures) (c .if5 .taken),
       le-leb _ _ (c .before .before .before .if4 .left),
-      kept (c .before .before .before .before .before .before .is-party .ensures) (c .before .before .before .before .before .if3 .left),
-      kept (c .before .before .before .before .before .before .before .before .is-unit .ensures) (c .before .before .before .before .before .before .before .if2 .left),
-      kept (c .before .before .before .before .before .before .before .before .before .before .within .ensures) (c .before .before .before .before .before .before .before .before .before .if1 .left),
+      kept (far .is-party .ensures) (c .before .before .before .before .before .if3 .left),
+      kept (far .before .before .is-unit .ensures) (far .before .if2 .left),
+      kept (far .before .before .before .before .within .ensures) (far .before .before .before .if1 .left),
     )
 
 cast-within-2 : tie.Need-cast-within-2
@@ -72,13 +73,15 @@ within-requires-2 c κs = search needs
 returns-6 : tie.Need-returns-6
 unfolding commitmentFits
 returns-6 c =
+    let far = c .before .before .before .before .before .before in
+    let further = far .before .before .before .before .before .before in
     simp (
       c .within2 .ensures,
       below-of refl (c .before .before .before .before .delivery-days .ensures) (c .before .before .if5 .left),
       le-leb _ _ (c .before .before .before .before .before .if4 .left),
-      kept (c .before .before .before .before .before .before .before .before .is-party .ensures) (c .before .before .before .before .before .before .before .if3 .left),
-      kept (c .before .before .before .before .before .before .before .before .before .before .is-unit .ensures) (c .before .before .before .before .before .before .before .before .before .if2 .left),
-      kept (c .before .before .before .before .before .before .before .before .before .before .before .before .within .ensures) (c .before .before .before .before .before .before .before .before .before .before .before .if1 .left),
+      kept (far .before .before .is-party .ensures) (far .before .if3 .left),
+      kept (far .before .before .before .before .is-unit .ensures) (far .before .before .before .if2 .left),
+      kept (further .within .ensures) (far .before .before .before .before .before .if1 .left),
     )
 
 pub commitment-fits-spec : {M : Type 1} → statement M

@@ -46,11 +46,12 @@ within-requires-2 c κs = search needs
 returns-4 : tie.Need-returns-4
 unfolding hourFits
 returns-4 c =
+    let far = c .before .before .before .before .before .before in
     simp (
       dropped (c .before .within2 .ensures) (c .if4 .taken),
       kept (c .before .before .before .before .within .ensures) (c .before .before .before .if3 .left),
-      kept (c .before .before .before .before .before .before .before .is-delivery-date .ensures) (c .before .before .before .before .before .before .if2 .left),
-      kept (c .before .before .before .before .before .before .before .before .before .is-unit .ensures) (c .before .before .before .before .before .before .before .before .if1 .left),
+      kept (far .before .is-delivery-date .ensures) (far .if2 .left),
+      kept (far .before .before .before .is-unit .ensures) (far .before .before .if1 .left),
     )
 
 derating-fits-requires : tie.Need-derating-fits-requires
@@ -59,12 +60,13 @@ derating-fits-requires c κs = search needs
 returns-5 : tie.Need-returns-5
 unfolding hourFits
 returns-5 c =
+    let far = c .before .before .before .before .before .before in
     simp (
       c .derating-fits .ensures,
       kept (c .before .before .within2 .ensures) (c .before .if4 .left),
       kept (c .before .before .before .before .before .within .ensures) (c .before .before .before .before .if3 .left),
-      kept (c .before .before .before .before .before .before .before .before .is-delivery-date .ensures) (c .before .before .before .before .before .before .before .if2 .left),
-      kept (c .before .before .before .before .before .before .before .before .before .before .is-unit .ensures) (c .before .before .before .before .before .before .before .before .before .if1 .left),
+      kept (far .before .before .is-delivery-date .ensures) (far .before .if2 .left),
+      kept (far .before .before .before .before .is-unit .ensures) (far .before .before .before .if1 .left),
     )
 
 pub hour-fits-spec : {M : Type 1} → statement M

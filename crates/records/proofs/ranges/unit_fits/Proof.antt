@@ -45,11 +45,13 @@ is-rate-requires c κs = search needs
 returns-4 : tie.Need-returns-4
 unfolding unitFits
 returns-4 c =
+    let far = c .before .before .before .before .before .before in
     simp (
       dropped (c .before .is-rate .ensures) (c .if4 .taken),
-      kept (c .before .before .before .within .ensures ∙ ap (within 1 5000000) (c .before .before .before .before .watts .ensures)) (c .before .before .if3 .left),
-      kept (c .before .before .before .before .before .before .before .is-area .ensures) (c .before .before .before .before .before .before .if2 .left),
-      kept (c .before .before .before .before .before .before .before .before .before .is-unit .ensures) (c .before .before .before .before .before .before .before .before .if1 .left),
+      kept (c .before .before .before .within .ensures ∙ ap (within 1 5000000) (c .before .before .before .before .watts .ensures))
+          (c .before .before .if3 .left),
+      kept (far .before .is-area .ensures) (far .if2 .left),
+      kept (far .before .before .before .is-unit .ensures) (far .before .before .if1 .left),
     )
 
 is-rate-requires-2 : tie.Need-is-rate-requires-2
@@ -58,12 +60,14 @@ is-rate-requires-2 c κs = search needs
 returns-5 : tie.Need-returns-5
 unfolding unitFits
 returns-5 c =
+    let far = c .before .before .before .before .before .before in
     simp (
       dropped (c .before .is-rate2 .ensures) (c .if5 .taken),
       kept (c .before .before .before .is-rate .ensures) (c .before .before .if4 .left),
-      kept (c .before .before .before .before .before .within .ensures ∙ ap (within 1 5000000) (c .before .before .before .before .before .before .watts .ensures)) (c .before .before .before .before .if3 .left),
-      kept (c .before .before .before .before .before .before .before .before .before .is-area .ensures) (c .before .before .before .before .before .before .before .before .if2 .left),
-      kept (c .before .before .before .before .before .before .before .before .before .before .before .is-unit .ensures) (c .before .before .before .before .before .before .before .before .before .before .if1 .left),
+      kept (c .before .before .before .before .before .within .ensures ∙ ap (within 1 5000000) (far .watts .ensures))
+          (c .before .before .before .before .if3 .left),
+      kept (far .before .before .before .is-area .ensures) (far .before .before .if2 .left),
+      kept (far .before .before .before .before .before .is-unit .ensures) (far .before .before .before .before .if1 .left),
     )
 
 is-rate-requires-3 : tie.Need-is-rate-requires-3
@@ -72,13 +76,15 @@ is-rate-requires-3 c κs = search needs
 returns-6 : tie.Need-returns-6
 unfolding unitFits
 returns-6 c =
+    let far = c .before .before .before .before .before .before in
+    let further = far .before .before .before .before .before .before in
     simp (
       dropped (c .before .is-rate3 .ensures) (c .if6 .taken),
       kept (c .before .before .before .is-rate2 .ensures) (c .before .before .if5 .left),
       kept (c .before .before .before .before .before .is-rate .ensures) (c .before .before .before .before .if4 .left),
-      kept (c .before .before .before .before .before .before .before .within .ensures ∙ ap (within 1 5000000) (c .before .before .before .before .before .before .before .before .watts .ensures)) (c .before .before .before .before .before .before .if3 .left),
-      kept (c .before .before .before .before .before .before .before .before .before .before .before .is-area .ensures) (c .before .before .before .before .before .before .before .before .before .before .if2 .left),
-      kept (c .before .before .before .before .before .before .before .before .before .before .before .before .before .is-unit .ensures) (c .before .before .before .before .before .before .before .before .before .before .before .before .if1 .left),
+      kept (far .before .within .ensures ∙ ap (within 1 5000000) (far .before .before .watts .ensures)) (far .if3 .left),
+      kept (far .before .before .before .before .before .is-area .ensures) (far .before .before .before .before .if2 .left),
+      kept (further .before .is-unit .ensures) (further .if1 .left),
     )
 
 cast-within : tie.Need-cast-within
@@ -90,14 +96,17 @@ within-requires-2 c κs = search needs
 returns-7 : tie.Need-returns-7
 unfolding unitFits
 returns-7 c =
+    let far = c .before .before .before .before .before .before in
+    let further = far .before .before .before .before .before .before in
     simp (
       c .within2 .ensures,
       kept (c .before .before .before .is-rate3 .ensures) (c .before .before .if6 .left),
       kept (c .before .before .before .before .before .is-rate2 .ensures) (c .before .before .before .before .if5 .left),
-      kept (c .before .before .before .before .before .before .before .is-rate .ensures) (c .before .before .before .before .before .before .if4 .left),
-      kept (c .before .before .before .before .before .before .before .before .before .within .ensures ∙ ap (within 1 5000000) (c .before .before .before .before .before .before .before .before .before .before .watts .ensures)) (c .before .before .before .before .before .before .before .before .if3 .left),
-      kept (c .before .before .before .before .before .before .before .before .before .before .before .before .before .is-area .ensures) (c .before .before .before .before .before .before .before .before .before .before .before .before .if2 .left),
-      kept (c .before .before .before .before .before .before .before .before .before .before .before .before .before .before .before .is-unit .ensures) (c .before .before .before .before .before .before .before .before .before .before .before .before .before .before .if1 .left),
+      kept (far .before .is-rate .ensures) (far .if4 .left),
+      kept (far .before .before .before .within .ensures ∙ ap (within 1 5000000) (far .before .before .before .before .watts .ensures))
+          (far .before .before .if3 .left),
+      kept (further .before .is-area .ensures) (further .if2 .left),
+      kept (further .before .before .before .is-unit .ensures) (further .before .before .if1 .left),
     )
 
 pub unit-fits-spec : {M : Type 1} → statement M

@@ -45,23 +45,25 @@ hour-index-requires c κs = search needs
 returns-5 : tie.Need-returns-5
 unfolding refusalOf
 returns-5 c =
+    let far = c .before .before .before .before .before .before in
     simp (
       at-most-of (c .before .before .hour-index .ensures) refl (c .if5 .taken),
       flag (c .before .before .before .before .derated-out .ensures) (c .before .before .before .if4 .left),
       c .before .before .before .before .before .if3 .left,
-      kept (c .before .before .before .before .before .before .before .before .hour-fits .ensures) (c .before .before .before .before .before .before .before .if2 .left),
-      ne-eqb _ _ (c .before .before .before .before .before .before .before .before .before .if1 .left),
+      kept (far .before .before .hour-fits .ensures) (far .before .if2 .left),
+      ne-eqb _ _ (far .before .before .before .if1 .left),
     )
 
 returns-6 : tie.Need-returns-6
 unfolding refusalOf
 returns-6 c =
+    let far = c .before .before .before .before .before .before in
     simp (
       not-at-most-of (c .before .before .hour-index .ensures) refl (c .if5 .left),
       flag (c .before .before .before .before .derated-out .ensures) (c .before .before .before .if4 .left),
       c .before .before .before .before .before .if3 .left,
-      kept (c .before .before .before .before .before .before .before .before .hour-fits .ensures) (c .before .before .before .before .before .before .before .if2 .left),
-      ne-eqb _ _ (c .before .before .before .before .before .before .before .before .before .if1 .left),
+      kept (far .before .before .hour-fits .ensures) (far .before .if2 .left),
+      ne-eqb _ _ (far .before .before .before .if1 .left),
     )
 
 pub hour-spec : {M : Type 1} → statement M
