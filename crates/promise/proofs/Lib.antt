@@ -1,3 +1,4 @@
 pub mod Example
 pub mod Runs
 pub mod AllFigures
+pub mod LineSums

@@ -1,2 +1,3 @@
 pub mod Reckoning
 pub mod Figures
+pub mod Laws

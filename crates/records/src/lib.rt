@@ -4,6 +4,6 @@ pub mod decode;
 pub mod format;
 pub mod hour;
 pub mod places;
-pub mod ranges;
+mod ranges;
 pub mod refusal;
 pub mod stream;

@@ -1,0 +1,16 @@
+-- The reckoning's lines add up to what it calls paid.
+use mathlib.Core.Path.{_≡_, refl, sym, _∙_}
+use mathlib.Core.List.{List, _∷_}
+use Prim.Native.Nat.{ℕ, _+_}
+use lib.IntN.{_+ℤ_, _-ℤ_, +ℤ-comm, -ℤ-+ℤ-cancel}
+use borrow.Author.Tests.{eq-eqb}
+use Rattle.settlement.specs.Money.{line}
+use Rattle.records.specs.declared.format.Record.{Record}
+use Rattle.promise.specs.Reckoning.{reckonedDue, reckonedPaid, reckonedLine}
+use Rattle.promise.specs.Laws.{LinesAddUp}
+
+pub lines-add-up : LinesAddUp
+unfolding reckonedPaid reckonedLine line
+lines-add-up acc a p =
+    rw (eq-eqb (a + 1) (a + 1) refl)
+    (sym (+ℤ-comm (reckonedPaid acc a p) (reckonedDue acc a p -ℤ reckonedPaid acc a p) ∙ -ℤ-+ℤ-cancel (reckonedDue acc a p) (reckonedPaid acc a p)))
