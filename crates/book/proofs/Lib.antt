@@ -1,4 +1,4 @@
-pub mod Units
+pub mod Ranges
 pub mod AreaNets
 pub mod AreaMoney
 pub mod Loops

@@ -1,10 +1,10 @@
 // The book: units, commitments and posted sums, one value; records are entered, and areas posted.
-use crate::hours::asked;
-use crate::hours::new_unit;
-use crate::hours::with_hour;
 use crate::money::area_party;
 use crate::money::no_lines;
 use crate::money::post;
+use crate::units::asked;
+use crate::units::new_unit;
+use crate::units::with_hour;
 use records::decode::decode;
 use records::format::AreaRecord;
 use records::format::CommitmentRecord;
@@ -175,6 +175,6 @@ impl Book {
     }
 }
 
-mod hours;
 pub mod laws;
 mod money;
+mod units;

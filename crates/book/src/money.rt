@@ -62,7 +62,7 @@ fn part(commitments: [CommitmentRecord; 64], u: usize, p: usize) -> u64
 {
     let mut sum = 0u64;
     let mut k = 0;
-    while k < 64 {
+    while k < Book::COMMITMENTS {
         let c = commitments[k];
         sum += commitment_part(c, u, p);
         k += 1;
@@ -76,7 +76,7 @@ fn parts(commitments: [CommitmentRecord; 64], u: usize) -> [u64; 16]
 {
     let mut parts = [0u64; 16];
     let mut p = 0;
-    while p < 16 {
+    while p < Book::PARTIES {
         parts[p] = part(commitments, u, p);
         p += 1;
     }
@@ -136,7 +136,7 @@ fn area_nets(
     let days = delivery_days(year) as u64;
     let mut nets = no_nets();
     let mut k = 0;
-    while k < 32 {
+    while k < Book::UNITS {
         let u = units[k];
         let more = nets_with(nets, u, k, commitments, area, days);
         nets = more;
@@ -151,7 +151,7 @@ fn area_obligations(obligations: [u32; 128], area: usize) -> [u64; 16]
 {
     let mut found = [0u64; 16];
     let mut p = 0;
-    while p < 16 {
+    while p < Book::PARTIES {
         let k = area_party(area, p);
         found[p] = obligations[k] as u64;
         p += 1;
@@ -166,7 +166,7 @@ fn earlier_lines(posted: [Cents; 128], area: usize) -> [Cents; 16]
 {
     let mut found = no_lines();
     let mut p = 0;
-    while p < 16 {
+    while p < Book::PARTIES {
         let k = area_party(area, p);
         found[p] = posted[k];
         p += 1;

@@ -1,5 +1,5 @@
 use borrow.Author.Needs.{needs}
-use Rattle.book.proofs.Units.{other-party, other-unit, own-part}
+use Rattle.book.proofs.Ranges.{other-party, other-unit, own-part}
 use Rattle.book.proofs.money.commitment_part.Statement.{statement}
 use Rattle.book.proofs.money.commitment_part.Tie as tie
 

@@ -1,9 +1,9 @@
 use native.Mathlib.Omega.{arith}
 use borrow.Author.Needs.{needs}
 use Rattle.book.specs.Entered.{withHour}
-use Rattle.book.proofs.Units.{derated-most}
-use Rattle.book.proofs.hours.with_hour.Statement.{statement}
-use Rattle.book.proofs.hours.with_hour.Tie as tie
+use Rattle.book.proofs.Ranges.{derated-most}
+use Rattle.book.proofs.units.with_hour.Statement.{statement}
+use Rattle.book.proofs.units.with_hour.Tie as tie
 
 service-hour-requires : tie.Need-service-hour-requires
 service-hour-requires c κs = search needs

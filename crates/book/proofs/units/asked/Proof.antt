@@ -1,6 +1,6 @@
 use mathlib.Core.Path.{refl}
-use Rattle.book.proofs.hours.asked.Statement.{statement}
-use Rattle.book.proofs.hours.asked.Tie as tie
+use Rattle.book.proofs.units.asked.Statement.{statement}
+use Rattle.book.proofs.units.asked.Tie as tie
 
 returns : tie.Need-returns
 returns c = refl
