@@ -2,3 +2,4 @@ pub mod Tests
 pub mod Frames
 pub mod Numbers
 pub mod Named
+pub mod FormatLaws

@@ -7,3 +7,4 @@ pub mod Facts
 pub mod Dues
 pub mod Rules
 pub mod Stream
+pub mod Laws

@@ -3,6 +3,7 @@
 pub mod decode;
 pub mod format;
 pub mod hour;
+pub mod laws;
 pub mod places;
 mod ranges;
 pub mod refusal;
