@@ -24,7 +24,9 @@ use Rattle.book.specs.declared.Unit as unit
 use Rattle.book.specs.declared.Book.{Book}
 use Rattle.book.specs.declared.Answer.{Answer}
 use Rattle.book.specs.Books.{noEntry, factsOfBook, areaParty, Sound}
-use Rattle.book.specs.Entered.{newUnit, withHour, afterPost, after, noLines, postLines, linesOf, answer, postAnswer, entered}
+use Rattle.book.specs.Entered.{withAreas, withUnits, withCommitments, withObligations, newUnit, withHour}
+use Rattle.book.specs.Entered.{afterPost, after, noLines, postLines, linesOf, answer, entered}
+use Rattle.book.specs.Steps.{postAnswer}
 use Rattle.book.proofs.AreaMoney.{due-most}
 use Rattle.book.proofs.Soundness.{entered-sound}
 
@@ -132,58 +134,22 @@ module _ (b : Book) (s : List ℕ) where
 
 -- what `enter` stores, as `after` has it
 module _ (b : Book) where
-  pub stored-area : (r : AreaRecord) {i : ℕ} → i ≡ place 8 (r .area) → _≡_ {A = Book} (record {
-    year = b .year;
-    areas = set (b .areas) i r;
-    units = b .units;
-    commitments = b .commitments;
-    obligations = b .obligations;
-    posted = b .posted;
-  })
-      (after b (Area r))
+  pub stored-area : (r : AreaRecord) {i : ℕ} → i ≡ place 8 (r .area)
+      → withAreas b (set (b .areas) i r) ≡ after b (Area r)
   stored-area r e = rw e
 
-  pub stored-unit : (r : UnitRecord) {j : ℕ} {u : unit.Unit} → j ≡ place 32 (r .unit) → u ≡ newUnit r → _≡_ {A = Book} (record {
-    year = b .year;
-    areas = b .areas;
-    units = set (b .units) j u;
-    commitments = b .commitments;
-    obligations = b .obligations;
-    posted = b .posted;
-  })
-      (after b (Unit r))
+  pub stored-unit : (r : UnitRecord) {j : ℕ} {u : unit.Unit} → j ≡ place 32 (r .unit) → u ≡ newUnit r
+      → withUnits b (set (b .units) j u) ≡ after b (Unit r)
   stored-unit r e new = rw (e, new)
 
-  pub stored-commitment : (r : CommitmentRecord) {k : ℕ} → k ≡ place 64 (r .number) → _≡_ {A = Book} (record {
-    year = b .year;
-    areas = b .areas;
-    units = b .units;
-    commitments = set (b .commitments) k r;
-    obligations = b .obligations;
-    posted = b .posted;
-  })
-      (after b (Commitment r))
+  pub stored-commitment : (r : CommitmentRecord) {k : ℕ} → k ≡ place 64 (r .number)
+      → withCommitments b (set (b .commitments) k r) ≡ after b (Commitment r)
   stored-commitment r e = rw e
 
   pub stored-hour : (r : HourRecord) {j : ℕ} {u : unit.Unit} → j ≡ place 32 (r .unit) → u ≡ withHour (b .year) (getD (b .units) j noEntry) r
-      → _≡_ {A = Book} (record {
-        year = b .year;
-        areas = b .areas;
-        units = set (b .units) j u;
-        commitments = b .commitments;
-        obligations = b .obligations;
-        posted = b .posted;
-      })
-      (after b (Hour r))
+      → withUnits b (set (b .units) j u) ≡ after b (Hour r)
   stored-hour r e counted = rw (counted, e)
 
-  pub stored-load : (r : LoadRecord) {i p k : ℕ} → i ≡ place 8 (r .area) → p ≡ place 16 (r .party) → k ≡ areaParty i p → _≡_ {A = Book} (record {
-    year = b .year;
-    areas = b .areas;
-    units = b .units;
-    commitments = b .commitments;
-    obligations = set (b .obligations) k (r .obligation);
-    posted = b .posted;
-  })
-      (after b (Load r))
+  pub stored-load : (r : LoadRecord) {i p k : ℕ} → i ≡ place 8 (r .area) → p ≡ place 16 (r .party) → k ≡ areaParty i p
+      → withObligations b (set (b .obligations) k (r .obligation)) ≡ after b (Load r)
   stored-load r i p k = rw (k, i, p)

@@ -38,7 +38,7 @@ use Rattle.records.specs.Facts.{Facts, noCommitment}
 use Rattle.records.specs.Dues.{days, wattDaysFor, partFor, unitFacts, shareIn, netIn}
 use Rattle.book.specs.declared.Unit.{Unit}
 use Rattle.book.specs.Books.{noEntry, factsOf, figuresOf, SoundUnit, SoundCommitment, SoundUnits, SoundCommitments}
-use Rattle.book.specs.Entered.{commitmentPart, netsWith}
+use Rattle.book.specs.Steps.{commitmentPart, netsWith}
 
 -- an element of an array that was filled
 pub element-of : {A : Type 0} (f : ℕ → A) {l : List A} → l ≡ listBelow 16 f → (k : ℕ) (d : A) → k < 16 → getD l k d ≡ f k

@@ -21,7 +21,8 @@ use Rattle.records.specs.Dues.{shareIn, netIn}
 use Rattle.book.specs.declared.Unit.{Unit}
 use Rattle.book.specs.declared.Book.{Book}
 use Rattle.book.specs.Books.{noEntry, factsOf, areaParty, obligationIn, postedIn, SoundUnits, SoundCommitments, Sound}
-use Rattle.book.specs.Entered.{netsWith, noLines}
+use Rattle.book.specs.Entered.{noLines}
+use Rattle.book.specs.Steps.{netsWith}
 use Rattle.book.proofs.AreaNets.{nets-step, nets-all}
 
 pub more-sum : (f : ℕ → ℕ) {k s t : ℕ} → s ≡ sumBelow k f → t ≡ f k → s + t ≡ sumBelow (k + 1) f

@@ -17,9 +17,9 @@ use Rattle.settlement.proofs.Lists.{list-same}
 use Rattle.records.specs.Facts.{noArea}
 use Rattle.records.specs.Dues.{netIn}
 use Rattle.book.specs.declared.Book.{Book}
-use Rattle.book.specs.declared.Answer.{Answer}
 use Rattle.book.specs.Books.{factsOf, factsOfBook, obligationIn, postedIn, Sound}
-use Rattle.book.specs.Entered.{noLines, answer, postAnswer}
+use Rattle.book.specs.Entered.{withPosted, noLines, answer}
+use Rattle.book.specs.Steps.{postAnswer}
 use Rattle.book.proofs.AreaMoney.{nets-of-book, dues-are, unplaced-is, money-settled, lines-posted, posted-after}
 
 module _ (b : Book) (a : ℕ) where
@@ -42,19 +42,7 @@ module _ (b : Book) (a : ℕ) where
   pub accepted-post : Sound b → {m : AreaMoney} {earlier ls ps : List Cents} → m ≡ money → m .unplaced ≡ false
       → earlier ≡ listBelow 16 (λ p. cents (postedIn (b .posted) a p)) → ls ≡ linesAnswer (m .dues) earlier
       → ps ≡ listBelow 128 (λ k. cond (eqb (k / 16) a) (getD (m .dues) (k % 16) (cents (pos 0))) (getD (b .posted) k (cents (pos 0))))
-      → _≡_ {A = Answer} (record {
-        number = 0;
-        lines = ls;
-        book = record {
-          year = b .year;
-          areas = b .areas;
-          units = b .units;
-          commitments = b .commitments;
-          obligations = b .obligations;
-          posted = ps;
-        };
-      })
-      (postAnswer b a)
+      → answer 0 ls (withPosted b ps) ≡ postAnswer b a
   unfolding postAnswer
   accepted-post sound {m} e flag sums ls ps =
       let dues = ap (λ (x : AreaMoney). x .dues) e ∙ dues-are (factsOfBook b) a in

@@ -8,7 +8,7 @@ use Rattle.settlement.specs.Capacity.{wattDays, wattDaysAnswer}
 use Rattle.records.specs.declared.format.CommitmentRecord.{CommitmentRecord}
 use Rattle.book.specs.declared.Unit.{Unit}
 use Rattle.book.specs.Books.{SoundUnit, SoundCommitment}
-use Rattle.book.specs.Entered.{commitmentPart}
+use Rattle.book.specs.Steps.{commitmentPart}
 
 -- D is below 2^36 however the hours fell
 pub derated-most : {u : Unit} → SoundUnit u → u .d ≤ 43920000000

@@ -29,7 +29,8 @@ use Rattle.records.specs.declared.format.Record.{Record}
 use Rattle.records.specs.declared.format.Record.the-variants.{Unframed, Year, Area, Unit, Commitment, Hour, Load, Post}
 use Rattle.records.specs.declared.refusal.Asked.{Asked}
 use Rattle.records.specs.Format.{Field, fits, yearYear, areaArea, areaPrice, unitUnit, unitArea, unitInstalled, unitE, unitF}
-use Rattle.records.specs.Format.{unitG, unitClass, commitmentNumber, commitmentUnit, commitmentParty, commitmentWatts, hourUnit, hourEnding, loadArea, loadParty, loadObligation}
+use Rattle.records.specs.Format.{unitG, unitClass, commitmentNumber, commitmentUnit, commitmentParty}
+use Rattle.records.specs.Format.{commitmentWatts, hourUnit, hourEnding, loadArea, loadParty, loadObligation}
 use Rattle.records.specs.Decoded.{decoded}
 use Rattle.records.specs.Facts.{noArea, noCommitment}
 use Rattle.records.specs.Hours.{hourIndex, serviceHour, outageHour, deratedWatts, isPeak}

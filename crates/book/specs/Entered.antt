@@ -6,13 +6,11 @@ use lib.IntN.{pos}
 use lib.Dec.{eqb}
 use lib.ListN.{getD, set}
 use Rattle.settlement.specs.declared.Cents.{Cents}
-use Rattle.settlement.specs.declared.UnforcedWatts.{UnforcedWatts}
 use Rattle.settlement.specs.Lists.{listBelow}
 use Rattle.settlement.specs.Quantities.{cents}
-use Rattle.settlement.specs.Capacity.{wattDays}
-use Rattle.settlement.specs.Shares.{sharesAnswer, netsAnswer}
 use Rattle.settlement.specs.Money.{line}
 use Rattle.records.specs.declared.format.CommitmentRecord.{CommitmentRecord}
+use Rattle.records.specs.declared.format.AreaRecord.{AreaRecord}
 use Rattle.records.specs.declared.format.UnitRecord.{UnitRecord}
 use Rattle.records.specs.declared.format.HourRecord.{HourRecord}
 use Rattle.records.specs.declared.format.Record.{Record}
@@ -20,12 +18,12 @@ use Rattle.records.specs.declared.format.Record.the-variants.{Unframed, Year, A
 use Rattle.records.specs.Decoded.{decoded}
 use Rattle.records.specs.Kinds.{ofPost}
 use Rattle.records.specs.Hours.{hourIndex, serviceHour, outageHour, deratedWatts}
-use Rattle.records.specs.Dues.{partFor, dueIn, unplacedIn}
+use Rattle.records.specs.Dues.{dueIn}
 use Rattle.records.specs.Rules.{place, refusal}
 use Rattle.book.specs.declared.Unit as unit
 use Rattle.book.specs.declared.Book.{Book}
 use Rattle.book.specs.declared.Answer.{Answer}
-use Rattle.book.specs.Books.{factsOf, figuresOf, factsOfBook, emptyBook, Sound, noEntry, areaParty, postedIn}
+use Rattle.book.specs.Books.{factsOfBook, emptyBook, Sound, noEntry, areaParty, postedIn}
 
 -- a unit as it is entered, without hours
 abbrev pub newUnit : UnitRecord → unit.Unit
@@ -41,65 +39,84 @@ withHour y u h = record {
   last = hourIndex y h;
 }
 
+-- a book with one field changed
+abbrev pub withYear : Book → ℕ → Book
+withYear b new = record {
+  year = new;
+  areas = b .areas;
+  units = b .units;
+  commitments = b .commitments;
+  obligations = b .obligations;
+  posted = b .posted;
+}
+
+abbrev pub withAreas : Book → List AreaRecord → Book
+withAreas b new = record {
+  year = b .year;
+  areas = new;
+  units = b .units;
+  commitments = b .commitments;
+  obligations = b .obligations;
+  posted = b .posted;
+}
+
+abbrev pub withUnits : Book → List unit.Unit → Book
+withUnits b new = record {
+  year = b .year;
+  areas = b .areas;
+  units = new;
+  commitments = b .commitments;
+  obligations = b .obligations;
+  posted = b .posted;
+}
+
+abbrev pub withCommitments : Book → List CommitmentRecord → Book
+withCommitments b new = record {
+  year = b .year;
+  areas = b .areas;
+  units = b .units;
+  commitments = new;
+  obligations = b .obligations;
+  posted = b .posted;
+}
+
+abbrev pub withObligations : Book → List ℕ → Book
+withObligations b new = record {
+  year = b .year;
+  areas = b .areas;
+  units = b .units;
+  commitments = b .commitments;
+  obligations = new;
+  posted = b .posted;
+}
+
+abbrev pub withPosted : Book → List Cents → Book
+withPosted b new = record {
+  year = b .year;
+  areas = b .areas;
+  units = b .units;
+  commitments = b .commitments;
+  obligations = b .obligations;
+  posted = new;
+}
+
 -- posted sums after a post of area a: place k is area k / 16's, party k % 16's, and its lines there now add up to its due
 unfoldable pub postedAfter : Book → ℕ → List Cents
 postedAfter b a = listBelow 128 (λ k. cond (eqb (k / 16) a) (cents (dueIn (factsOfBook b) a (k % 16))) (getD (b .posted) k (cents (pos 0))))
 
 -- a Post changes only the posted sums
 abbrev pub afterPost : Book → ℕ → Book
-afterPost b a = record {
-  year = b .year;
-  areas = b .areas;
-  units = b .units;
-  commitments = b .commitments;
-  obligations = b .obligations;
-  posted = postedAfter b a;
-}
+afterPost b a = withPosted b (postedAfter b a)
 
 -- the book after an accepted record
 abbrev pub after : Book → Record → Book
 after b (Unframed f) = b
-after b (Year y) = record { year = y; areas = b .areas; units = b .units; commitments = b .commitments; obligations = b .obligations; posted = b .posted }
-after b (Area r) = record {
-  year = b .year;
-  areas = set (b .areas) (place 8 (r .area)) r;
-  units = b .units;
-  commitments = b .commitments;
-  obligations = b .obligations;
-  posted = b .posted;
-}
-after b (Unit r) = record {
-  year = b .year;
-  areas = b .areas;
-  units = set (b .units) (place 32 (r .unit)) (newUnit r);
-  commitments = b .commitments;
-  obligations = b .obligations;
-  posted = b .posted;
-}
-after b (Commitment r) = record {
-  year = b .year;
-  areas = b .areas;
-  units = b .units;
-  commitments = set (b .commitments) (place 64 (r .number)) r;
-  obligations = b .obligations;
-  posted = b .posted;
-}
-after b (Hour r) = record {
-  year = b .year;
-  areas = b .areas;
-  units = set (b .units) (place 32 (r .unit)) (withHour (b .year) (getD (b .units) (place 32 (r .unit)) noEntry) r);
-  commitments = b .commitments;
-  obligations = b .obligations;
-  posted = b .posted;
-}
-after b (Load r) = record {
-  year = b .year;
-  areas = b .areas;
-  units = b .units;
-  commitments = b .commitments;
-  obligations = set (b .obligations) (areaParty (place 8 (r .area)) (place 16 (r .party))) (r .obligation);
-  posted = b .posted;
-}
+after b (Year y) = withYear b y
+after b (Area r) = withAreas b (set (b .areas) (place 8 (r .area)) r)
+after b (Unit r) = withUnits b (set (b .units) (place 32 (r .unit)) (newUnit r))
+after b (Commitment r) = withCommitments b (set (b .commitments) (place 64 (r .number)) r)
+after b (Hour r) = withUnits b (set (b .units) (place 32 (r .unit)) (withHour (b .year) (getD (b .units) (place 32 (r .unit)) noEntry) r))
+after b (Load r) = withObligations b (set (b .obligations) (areaParty (place 8 (r .area)) (place 16 (r .party))) (r .obligation))
 after b (Post a) = afterPost b (place 8 a)
 
 -- sixteen zero lines
@@ -116,20 +133,6 @@ linesOf b r = ofPost noLines (λ a. postLines b (place 8 a)) r
 
 abbrev pub answer : ℕ → List Cents → Book → Answer
 answer number lines book = record { number = number; lines = lines; book = book }
-
--- Steps of a post: what a commitment adds to party p's part of unit u's V, and an area's nets with unit k's shares.
-unfoldable pub commitmentPart : CommitmentRecord → ℕ → ℕ → ℕ
-commitmentPart c u p = cond (eqb (c .party) (p + 1)) (cond (eqb (c .unit) (u + 1)) (wattDays (c .watts) (c .first) (c .last)) 0) 0
-
-unfoldable pub netsWith : List UnforcedWatts → unit.Unit → ℕ → List CommitmentRecord → ℕ → ℕ → List UnforcedWatts
-netsWith nets u k commitments a days =
-    cond (eqb (u .entry .area) (a + 1))
-    (netsAnswer nets (sharesAnswer (figuresOf u) (listBelow 16 (partFor (factsOf 0 [] [] commitments []) k)) days))
-    nets
-
--- a post of area a, where rows 1 to 10 do not fit: row 11, or the lines and the posted sums
-unfoldable pub postAnswer : Book → ℕ → Answer
-postAnswer b a = cond (unplacedIn (factsOfBook b) a) (answer 11 noLines b) (answer 0 (postLines b a) (afterPost b a))
 
 -- A string's answer: the number of its refusal with sixteen zero lines and the same book; where no row fits, 0, the lines of
 -- its kind, and the book after it.

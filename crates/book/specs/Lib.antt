@@ -1,2 +1,3 @@
 pub mod Books
 pub mod Entered
+pub mod Steps

@@ -24,7 +24,8 @@ ghost use Rattle.settlement.specs.Lists.{listBelow};
 ghost use Rattle.settlement.specs.Quantities.{cents, unforcedWatts};
 ghost use Rattle.records.specs.Dues.{partFor, netIn};
 ghost use Rattle.book.specs.Books.{factsOf, figuresOf, areaParty, obligationIn, postedIn, SoundUnits, SoundCommitment, SoundCommitments, Sound};
-ghost use Rattle.book.specs.Entered.{noLines, commitmentPart, netsWith, postAnswer};
+ghost use Rattle.book.specs.Entered.{noLines};
+ghost use Rattle.book.specs.Steps.{commitmentPart, netsWith, postAnswer};
 
 pub(crate) fn no_lines() -> [Cents; 16]
     ensures { λ r. ⌜ r ≡ noLines ⌝ }

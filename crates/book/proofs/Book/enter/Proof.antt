@@ -3,7 +3,7 @@ use native.Mathlib.Omega.{arith}
 use borrow.Author.Needs.{needs}
 use Rattle.records.specs.Rules.{areaNamed, unitNamed}
 use Rattle.records.proofs.Named.{placed}
-use Rattle.book.specs.Entered.{postAnswer}
+use Rattle.book.specs.Steps.{postAnswer}
 use denote.Ref.{now}
 use Rattle.book.proofs.Answers.{number-is, refused, posted, entered-as, sound-answer}
 use Rattle.book.proofs.Answers.{stored-area, stored-unit, stored-commitment, stored-hour, stored-load}

@@ -1,6 +1,6 @@
 use borrow.Author.Tests.{eq-eqb, ne-eqb}
 use borrow.Author.Needs.{needs}
-use Rattle.book.specs.Entered.{netsWith}
+use Rattle.book.specs.Steps.{netsWith}
 use Rattle.book.proofs.money.nets_with.Statement.{statement}
 use Rattle.book.proofs.money.nets_with.Tie as tie
 

@@ -5,7 +5,7 @@ use lib.ListN.{getD}
 use borrow.Author.Needs.{needs}
 use Rattle.calendar.specs.Sum.{sumBelow}
 use Rattle.records.specs.Facts.{noCommitment}
-use Rattle.book.specs.Entered.{commitmentPart}
+use Rattle.book.specs.Steps.{commitmentPart}
 use Rattle.book.proofs.Loops.{more-sum, all-sum}
 use Rattle.book.proofs.AreaNets.{part-is}
 use Rattle.book.proofs.money.part.Statement.{statement}

@@ -1,0 +1,31 @@
+-- What the private functions of a post work out, step by step. A reader of the public contracts needs none of it.
+use mathlib.Core.Bool.{cond}
+use mathlib.Core.List.{List, []}
+use Prim.Native.Nat.{ℕ, _+_}
+use lib.Dec.{eqb}
+use Rattle.settlement.specs.declared.UnforcedWatts.{UnforcedWatts}
+use Rattle.settlement.specs.Lists.{listBelow}
+use Rattle.settlement.specs.Capacity.{wattDays}
+use Rattle.settlement.specs.Shares.{sharesAnswer, netsAnswer}
+use Rattle.records.specs.declared.format.CommitmentRecord.{CommitmentRecord}
+use Rattle.records.specs.Dues.{partFor, unplacedIn}
+use Rattle.book.specs.declared.Unit as unit
+use Rattle.book.specs.declared.Book.{Book}
+use Rattle.book.specs.declared.Answer.{Answer}
+use Rattle.book.specs.Books.{factsOf, figuresOf, factsOfBook}
+use Rattle.book.specs.Entered.{afterPost, noLines, postLines, answer}
+
+-- what a commitment adds to party p's part of unit u's V
+unfoldable pub commitmentPart : CommitmentRecord → ℕ → ℕ → ℕ
+commitmentPart c u p = cond (eqb (c .party) (p + 1)) (cond (eqb (c .unit) (u + 1)) (wattDays (c .watts) (c .first) (c .last)) 0) 0
+
+-- an area's nets with unit k's shares, where it is in that area
+unfoldable pub netsWith : List UnforcedWatts → unit.Unit → ℕ → List CommitmentRecord → ℕ → ℕ → List UnforcedWatts
+netsWith nets u k commitments a days =
+    cond (eqb (u .entry .area) (a + 1))
+    (netsAnswer nets (sharesAnswer (figuresOf u) (listBelow 16 (partFor (factsOf 0 [] [] commitments []) k)) days))
+    nets
+
+-- a post of area a, where rows 1 to 10 do not fit: row 11, or the lines and the posted sums
+unfoldable pub postAnswer : Book → ℕ → Answer
+postAnswer b a = cond (unplacedIn (factsOfBook b) a) (answer 11 noLines b) (answer 0 (postLines b a) (afterPost b a))
