@@ -18,7 +18,14 @@ cast-result c = search needs
 
 returns-2 : tie.Need-returns-2
 unfolding deratedWatts
-returns-2 c = (simp (eq-eqb _ _ (c .before .if2 .taken), kept (c .before .before .before .before .is-peak .ensures) (c .before .before .before .if1 .left)), omega arith)
+returns-2 c = (
+  simp (
+    eq-eqb _ _ (c .before .if2 .taken),
+    kept (c .before .before .before .before .is-peak .ensures)
+        (c .before .before .before .if1 .left),
+  ),
+  omega arith,
+)
 
 returns-3 : tie.Need-returns-3
 unfolding deratedWatts
