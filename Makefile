@@ -7,7 +7,7 @@ ARCHIVE = target/staticlib/libcalendar.a
 SOURCES = $(shell find crates/calendar/src crates/calendar/specs crates/calendar/proofs -type f)
 
 # tests/host/edits reads what rt ci left
-HOST = edits contracts layout quantities peak_hour peak_week tally kit
+HOST = edits contracts format layout quantities peak_hour peak_week tally kit
 
 .PHONY: test run archive
 
