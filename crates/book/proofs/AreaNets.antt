@@ -4,7 +4,7 @@ use mathlib.Core.Bool.{Bool, true, false, cond}
 use mathlib.Core.List.{List, []}
 use mathlib.Core.Logic.{_⊎_, inl, inr}
 use Prim.Native.Nat.{ℕ, _+_, _-_, _≤_, _<_, zero-le}
-use native.Mathlib.Nat.{le-refl, le-trans, mul-le-mul}
+use native.Mathlib.Nat.{le-refl, le-trans}
 use native.Mathlib.Numerals.{add-one}
 use native.Mathlib.Omega.{arith}
 use lib.IntN.{ℤ, pos, natAbs, _+ℤ_, +ℤ-idr}
@@ -37,8 +37,9 @@ use Rattle.records.specs.declared.format.CommitmentRecord.{CommitmentRecord}
 use Rattle.records.specs.Facts.{Facts, noCommitment}
 use Rattle.records.specs.Dues.{days, wattDaysFor, partFor, unitFacts, shareIn, netIn}
 use Rattle.book.specs.declared.Unit.{Unit}
-use Rattle.book.specs.Books.{noEntry, factsOf, figuresOf, SoundUnit, SoundCommitment, SoundUnits, SoundCommitments}
+use Rattle.book.specs.Books.{noEntry, factsOf, figuresOf, SoundUnit, SoundUnits, SoundCommitments}
 use Rattle.book.specs.Steps.{commitmentPart, netsWith}
+use Rattle.book.proofs.Ranges.{watt-days-most}
 
 -- an element of an array that was filled
 pub element-of : {A : Type 0} (f : ℕ → A) {l : List A} → l ≡ listBelow 16 f → (k : ℕ) (d : A) → k < 16 → getD l k d ≡ f k
@@ -127,16 +128,14 @@ module _ (year : ℕ) (areas : List AreaRecord) (units : List Unit) (commitments
 
   -- a unit's watt-days are those of 64 commitments at most
   watt-days-small : SoundCommitments commitments → (u : ℕ) → wattDaysOf (partFor facts u) ≤ 117120000000
-  unfolding wattDaysOf partFor partOf wattDaysFor wattDays
+  unfolding wattDaysOf partFor partOf wattDaysFor
   watt-days-small sound u =
       rw (sum-exchange 16 64 (λ p k. cond (eqb (facts .commitment k .party) (p + 1)) (wattDaysFor facts u k) 0))
       (sum-bounded 64 64 1830000000 _ (le-refl 64)
       (λ k. le-trans (one-party 16 (facts .commitment k .party) (wattDaysFor facts u k)) (go k (eqb (facts .commitment k .unit) (u + 1)))))
     where
       go : (k : ℕ) (t : Bool) → cond t (wattDays (facts .commitment k .watts) (facts .commitment k .first) (facts .commitment k .last)) 0 ≤ 1830000000
-      go k true =
-          let c : SoundCommitment (facts .commitment k) = sound k in
-          mul-le-mul {n₂ = 5000000} {m₂ = 366} (c .watts-most) (omega (arith, c .last-most))
+      go k true = watt-days-most (sound k)
       go k false = zero-le
 
   -- so that a unit of the area has its shares

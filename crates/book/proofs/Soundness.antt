@@ -11,9 +11,7 @@ use lib.Dec.{eqb, ltb, leb}
 use lib.ListN.{length, getD, set, length-set, List·getD-eq-default}
 use borrow.Author.Tests.{ltb-true, ltb-false, leb-true, leb-false, eqb-true, not-false}
 use Rattle.calendar.specs.DeliveryYear.{deliveryDays, isDeliveryDate}
-use Rattle.calendar.specs.Gregorian.{leapYear}
 use Rattle.calendar.proofs.Tests.{within-from, within-to}
-use Rattle.calendar.proofs.Months.{year-small}
 use Rattle.calendar.proofs.DeliveryYears.{day-small}
 use Rattle.settlement.specs.Lists.{listBelow}
 use Rattle.settlement.specs.declared.Cents.{Cents}
@@ -42,6 +40,7 @@ use Rattle.book.specs.declared.Unit as unit
 use Rattle.book.specs.declared.Book.{Book}
 use Rattle.book.specs.Books.{noEntry, factsOfBook, emptyBook, areaParty, SoundUnit, SoundCommitment, Sound}
 use Rattle.book.specs.Entered.{newUnit, withHour, postedAfter, after, entered, bookAfter}
+use Rattle.book.proofs.AreaNets.{days-in-range}
 
 -- what holds of the default and of every value of a list holds at every place, past the list's end too
 module _ {A : Type 0} (P : A → Type 0) (d : A) where
@@ -211,8 +210,7 @@ new-unit-sound r ok =
     }
 
 days-most : (y : ℕ) → deliveryDays y ≤ 366
-unfolding deliveryDays
-days-most y = year-small (leapYear (y + 1))
+days-most y = within-to 365 366 (deliveryDays y) (days-in-range y)
 
 commitment-sound : (y : ℕ) (c : CommitmentRecord) → commitmentFits y c ≡ true → SoundCommitment c
 unfolding commitmentFits

@@ -17,7 +17,7 @@ use Rattle.records.specs.Refusal.{areaFits, unitFits, commitmentFits, loadFits,
 use Rattle.records.specs.Rules.{place}
 use Rattle.promise.specs.Reckoning.{yearOf, latestArea, unitOf, latestCommitment, latestObligation, hoursOf, sumOver, lastIndex, factsOfList}
 use Rattle.promise.specs.Reckoning.{Answered, answersOf}
-use Rattle.promise.specs.Figures.{year, area, unit, commitment, load, post, Figure, settled, figureGiven}
+use Rattle.promise.specs.Figures.{year, area, unit, commitment, load, post, settled, figureGiven}
 use Rattle.promise.specs.Figures.{entered, enteredAnswers, reckonedRows, figures}
 use Rattle.promise.proofs.Runs.{none-next, accepted-next, refused-next}
 use Rattle.promise.proofs.Example.{area₁, unit₁, unit₂, commitment₁, commitment₂, load₅, load₇, unloaded, loaded}
@@ -53,11 +53,8 @@ reckoned-figures = (
   (entered-run _ (refused-next (post 1) (Post 1) unloaded [] 11 refl refl unloaded-number (none-next unloaded)), tt),
 )
 
--- rows of settlement, and rows after them
-with-settled : (rows : List settlement.Figure) (more : List Figure)
-    → EachGiven settlement.figureGiven rows → EachGiven figureGiven more → EachGiven figureGiven (map settled rows ++ more)
-with-settled [] more all rest = rest
-with-settled (r ∷ rs) more all rest = (all .0, with-settled rs more (all .1) rest)
-
 pub figures-given : EachGiven figureGiven figures
-figures-given = with-settled settlement.figures reckonedRows settlement-proofs.figures-given reckoned-figures
+figures-given =
+    settlement-proofs.each-joined figureGiven (map settled settlement.figures) reckonedRows
+    (settlement-proofs.each-renamed figureGiven settled settlement.figures settlement-proofs.figures-given)
+    reckoned-figures

@@ -5,10 +5,6 @@ use Prim.Native.Nat.{ℕ, _≤_, _<_}
 use lib.Dec.{ltb, leb, eqb}
 use borrow.Author.Tests.{not-true, not-false, ne-eqb, lt-ltb, le-ltb, le-leb, lt-leb}
 
--- a flag that was tested as it is
-pub flag : {f t v : Bool} → f ≡ t → f ≡ v → t ≡ v
-flag e taken = sym e ∙ taken
-
 -- a flag whose negation was tested: it passed, so the flag is not set; it failed, so it is
 pub dropped : {f t : Bool} → f ≡ t → not f ≡ true → t ≡ false
 dropped {f} e q = sym e ∙ not-true f q

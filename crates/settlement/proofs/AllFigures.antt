@@ -11,11 +11,11 @@ use Rattle.settlement.specs.Money.{priced, charge, ceiling, charges, cei
 use Rattle.settlement.specs.Figures.{peak, figureGiven, settlementRows, figures}
 
 -- rows under another name, and rows after rows
-each-renamed : {A B : Type 0} (given : B → Type 0) (name : A → B) (rows : List A) → EachGiven (λ r. given (name r)) rows → EachGiven given (map name rows)
+pub each-renamed : {A B : Type 0} (given : B → Type 0) (name : A → B) (rows : List A) → EachGiven (λ r. given (name r)) rows → EachGiven given (map name rows)
 each-renamed given name [] all = tt
 each-renamed given name (r ∷ rs) all = (all .0, each-renamed given name rs (all .1))
 
-each-joined : {A : Type 0} (given : A → Type 0) (rows more : List A) → EachGiven given rows → EachGiven given more → EachGiven given (rows ++ more)
+pub each-joined : {A : Type 0} (given : A → Type 0) (rows more : List A) → EachGiven given rows → EachGiven given more → EachGiven given (rows ++ more)
 each-joined given [] more all rest = rest
 each-joined given (r ∷ rs) more all rest = (all .0, each-joined given rs more (all .1) rest)
 

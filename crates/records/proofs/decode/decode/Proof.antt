@@ -1,6 +1,6 @@
 use borrow.Author.Needs.{needs}
+use Rattle.settlement.proofs.Tests.{flag}
 use Rattle.records.specs.Decoded.{decoded}
-use Rattle.records.proofs.Tests.{flag}
 use Rattle.records.proofs.decode.decode.Statement.{statement}
 use Rattle.records.proofs.decode.decode.Tie as tie
 

@@ -1,8 +1,9 @@
 use mathlib.Core.Path.{refl}
 use borrow.Author.Tests.{eq-eqb, ne-eqb}
 use borrow.Author.Needs.{needs}
+use Rattle.settlement.proofs.Tests.{flag}
 use Rattle.records.specs.Refusal.{refusalOf}
-use Rattle.records.proofs.Tests.{flag, dropped, kept, at-most-of, not-at-most-of}
+use Rattle.records.proofs.Tests.{dropped, kept, at-most-of, not-at-most-of}
 use Rattle.records.proofs.refusal.hour.Statement.{statement}
 use Rattle.records.proofs.refusal.hour.Tie as tie
 
