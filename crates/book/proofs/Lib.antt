@@ -5,3 +5,4 @@ pub mod Loops
 pub mod Posting
 pub mod Soundness
 pub mod Answers
+pub mod HourRuns

@@ -111,12 +111,12 @@ passed-row n true e = absurd (omega (arith, e))
 passed-row n false e = (refl, e)
 
 -- what rows 6, 9 and 10 say of a record that no row refuses
-record Accepted (a : Asked) (r : Record) : Type 0 where
-  in-range : inRange (a .year) r ≡ true
-  not-out : deratedOut a r ≡ false
-  later : notLater a r ≡ false
+pub record Accepted (a : Asked) (r : Record) : Type 0 where
+  pub in-range : inRange (a .year) r ≡ true
+  pub not-out : deratedOut a r ≡ false
+  pub later : notLater a r ≡ false
 
-accepted : (a : Asked) (r : Record) → refusalOf a r ≡ 0 → Accepted a r
+pub accepted : (a : Asked) (r : Record) → refusalOf a r ≡ 0 → Accepted a r
 unfolding refusalOf
 accepted a r e =
     let row3 = passed-row 2 (hasFault 3 r) (passed-row 1 (hasFault 2 r) (passed-row 0 (hasFault 1 r) e .1) .1) in

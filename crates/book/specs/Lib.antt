@@ -1,3 +1,4 @@
 pub mod Books
 pub mod Entered
+pub mod Runs
 pub mod Steps

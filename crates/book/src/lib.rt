@@ -6,6 +6,7 @@ use crate::units::asked;
 use crate::units::new_unit;
 use crate::units::with_hour;
 use records::decode::decode;
+use records::decode::hour_of;
 use records::format::AreaRecord;
 use records::format::CommitmentRecord;
 use records::format::Record;
@@ -13,12 +14,16 @@ use records::format::UnitRecord;
 use records::places::area_named;
 use records::places::place;
 use records::places::unit_named;
+use records::refusal::hour;
 use records::refusal::refusal;
 use settlement::Cents;
 use settlement::InstalledWatts;
 ghost use mathlib.Core.Path.{_≡_};
+ghost use Prim.Native.Nat.{min};
+ghost use lib.ListN.{length};
 ghost use Rattle.book.specs.Books.{emptyBook, Sound};
 ghost use Rattle.book.specs.Entered.{entered};
+ghost use Rattle.book.specs.Runs.{hoursBetween};
 
 // A unit: its record, and the figures of its accepted hours.
 pub struct Unit {
@@ -47,6 +52,12 @@ pub struct Book {
 pub struct Answer {
     pub number: u32,
     pub lines: [Cents; 16],
+    pub book: Book,
+}
+
+// A run of accepted hours: where it ends, and the book after it.
+pub struct Run {
+    pub next: usize,
     pub book: Book,
 }
 
@@ -173,6 +184,45 @@ impl Book {
             },
         }
     }
+
+    // Hour records of a slice, entered one after another with the book in place: up to the first record that is anything
+    // else or would be refused.
+    pub fn hours(mut self, s: &[u8], from: usize, to: usize) -> Run
+        requires { ⌜ Sound self ⌝ }
+        ensures { λ r. ⌜ (r ≡ hoursBetween self (now (s .entry)) from to) × Sound (r .book) ⌝ }
+    {
+        let end = within(s, to);
+        let mut at = from;
+        while at < end && 12 <= end - at {
+            let next = at + 12;
+            let h = hour_of(&s[at..next]);
+            let j = place(32, h.unit);
+            let area = self.areas[0];
+            let unit = self.units[j];
+            if hour(asked(self.year, area, unit), h) != 0 {
+                return Run {
+                    next: at,
+                    book: self,
+                };
+            }
+            self.units[j] = with_hour(self.year, unit, h);
+            at = next;
+        }
+        Run {
+            next: at,
+            book: self,
+        }
+    }
+}
+
+// The place `to`, or the end of s where that comes first.
+fn within(s: &[u8], to: usize) -> usize
+    ensures { λ r. ⌜ r ≡ min to (length (now (s .entry))) ⌝ }
+{
+    if to < s.len() {
+        return to;
+    }
+    s.len()
 }
 
 pub mod laws;

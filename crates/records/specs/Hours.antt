@@ -1,9 +1,19 @@
 -- What an Hour record adds to its unit's figures. 01, Hours; 002 (b) and (c).
 use mathlib.Core.Bool.{Bool, cond, _&&_}
+use mathlib.Core.List.{List}
 use Prim.Native.Nat.{ℕ, _+_, _*_}
 use lib.Dec.{eqb, leb}
 use Rattle.calendar.specs.DeliveryYear.{deliveryDay, isDeliveryPeak}
 use Rattle.records.specs.declared.format.HourRecord.{HourRecord}
+use Rattle.records.specs.Decoded.{decoded}
+use Rattle.records.specs.Kinds.{ofHour}
+
+abbrev pub noHour : HourRecord
+noHour = record { unit = 0; month = 0; day = 0; hour = 0; kind = 0; derating = 0 }
+
+-- the Hour record that a string is; all zeros, which no accepted record is, where it is none
+abbrev pub hourOf : List ℕ → HourRecord
+hourOf s = ofHour noHour (λ h. h) (decoded s)
 
 -- The place of an hour in delivery year y: by day of the delivery year and then hour ending, the first being 1.
 unfoldable pub hourIndex : ℕ → HourRecord → ℕ

@@ -15,6 +15,7 @@ ghost use Rattle.records.specs.declared.format.Record.the-variants.{Year
 ghost use Rattle.records.specs.Format.{numberAt, valueOf, yearYear, postArea};
 ghost use Rattle.records.specs.Format.{yearFormat, areaFormat, unitFormat, commitmentFormat, hourFormat, loadFormat, postFormat};
 ghost use Rattle.records.specs.Decoded.{isBroken, ofLength, areaRecord, unitRecord, commitmentRecord, hourRecord, loadRecord, framed, decoded};
+ghost use Rattle.records.specs.Hours.{noHour, hourOf};
 
 fn byte(s: &[u8], from: usize) -> u32
     requires { ⌜ from < length (now s) ⌝ }
@@ -112,6 +113,20 @@ fn commitment(s: &[u8]) -> Record
     })
 }
 
+fn hour_fields(s: &[u8]) -> HourRecord
+    requires { ⌜ 12 ≤ length (now s) ⌝ }
+    ensures { λ r. ⌜ r ≡ hourRecord (now (s .entry)) ⌝ }
+{
+    HourRecord {
+        unit: byte(s, 3),
+        month: byte(s, 4),
+        day: byte(s, 5),
+        hour: byte(s, 6),
+        kind: byte(s, 7),
+        derating: quad(s, 8),
+    }
+}
+
 fn hour(s: &[u8]) -> Record
     requires { ⌜ isBroken (now s) ≡ false ⌝ }
     ensures { λ r. ⌜ r ≡ ofLength hourFormat (now (s .entry)) (Hour (hourRecord (now (s .entry)))) ⌝ }
@@ -119,14 +134,7 @@ fn hour(s: &[u8]) -> Record
     if s.len() != 12 {
         return Record::Unframed(Fault::WrongLength);
     }
-    Record::Hour(HourRecord {
-        unit: byte(s, 3),
-        month: byte(s, 4),
-        day: byte(s, 5),
-        hour: byte(s, 6),
-        kind: byte(s, 7),
-        derating: quad(s, 8),
-    })
+    Record::Hour(hour_fields(s))
 }
 
 fn load(s: &[u8]) -> Record
@@ -178,4 +186,33 @@ pub fn decode(s: &[u8]) -> Record
         return Record::Unframed(Fault::Broken);
     }
     framed(s)
+}
+
+fn no_hour() -> HourRecord
+    ensures { λ r. ⌜ r ≡ noHour ⌝ }
+{
+    HourRecord {
+        unit: 0,
+        month: 0,
+        day: 0,
+        hour: 0,
+        kind: 0,
+        derating: 0,
+    }
+}
+
+// The Hour record that a string of bytes is; all zeros where it is none. `decode` alone, without the other kinds.
+pub fn hour_of(s: &[u8]) -> HourRecord
+    ensures { λ r. ⌜ r ≡ hourOf (now (s .entry)) ⌝ }
+{
+    if s.len() != 12 {
+        return no_hour();
+    }
+    if byte(s, 0) != 5 {
+        return no_hour();
+    }
+    if pair(s, 1) != 9 {
+        return no_hour();
+    }
+    hour_fields(s)
 }

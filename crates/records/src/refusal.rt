@@ -114,7 +114,8 @@ fn derated_out(i: InstalledWatts, r: HourRecord) -> bool
     i.watts() <= r.derating as u64
 }
 
-fn hour(a: Asked, r: HourRecord) -> u32
+// The rows of an Hour alone.
+pub fn hour(a: Asked, r: HourRecord) -> u32
     ensures { λ n. ⌜ n ≡ refusalOf a (Hour r) ⌝ }
 {
     if a.year == 0 {

@@ -1,4 +1,6 @@
+use mathlib.Core.Path.{ap}
 use borrow.Author.Needs.{needs}
+use Rattle.records.specs.declared.format.Record.the-variants.{Hour}
 use Rattle.records.specs.Format.{hourFormat}
 use Rattle.records.proofs.Frames.{of-length, not-of-length}
 use Rattle.records.proofs.decode.hour.Statement.{statement}
@@ -7,45 +9,11 @@ use Rattle.records.proofs.decode.hour.Tie as tie
 returns : tie.Need-returns
 returns c = not-of-length hourFormat _ (c .before .before .pre) _ (c .if1 .taken)
 
-byte-requires : tie.Need-byte-requires
-byte-requires c κs = search needs
-
-byte-requires-2 : tie.Need-byte-requires-2
-byte-requires-2 c κs = search needs
-
-byte-requires-3 : tie.Need-byte-requires-3
-byte-requires-3 c κs = search needs
-
-byte-requires-4 : tie.Need-byte-requires-4
-byte-requires-4 c κs = search needs
-
-byte-requires-5 : tie.Need-byte-requires-5
-byte-requires-5 c κs = search needs
-
-quad-requires : tie.Need-quad-requires
-quad-requires c κs = search needs
+hour-fields-requires : tie.Need-hour-fields-requires
+hour-fields-requires c κs = search needs
 
 returns-2 : tie.Need-returns-2
-returns-2 c =
-    let far = c .before .before .before .before .before .before in
-    of-length hourFormat _ (far .before .before .pre) (far .if1 .left) (simp (
-      c .quad .ensures,
-      c .before .byte5 .ensures .0,
-      c .before .before .byte4 .ensures .0,
-      c .before .before .before .byte3 .ensures .0,
-      c .before .before .before .before .byte2 .ensures .0,
-      c .before .before .before .before .before .byte .ensures .0,
-    ))
+returns-2 c = of-length hourFormat _ (c .before .before .before .pre) (c .before .if1 .left) (ap Hour (c .hour-fields .ensures))
 
 pub hour-spec : {M : Type 1} → statement M
-hour-spec =
-    tie.close
-    (tie.spec
-    returns
-    byte-requires
-    byte-requires-2
-    byte-requires-3
-    byte-requires-4
-    byte-requires-5
-    quad-requires
-    returns-2)
+hour-spec = tie.close (tie.spec returns hour-fields-requires returns-2)
