@@ -1,8 +1,9 @@
 -- Laws of the format, of the order of hours, and of the next record.
-use mathlib.Core.Path.{_≡_, refl, subst}
+use mathlib.Core.Path.{_≡_, refl, sym, subst, _∙_}
 use mathlib.Core.Bool.{Bool, true, false, cond, not, _&&_, _||_, false≢true}
 use mathlib.Core.List.{List, _++_}
 use Prim.Native.Nat.{ℕ, _+_, _*_, _≤_, _<_}
+use native.Mathlib.Nat.{min-le-right}
 use native.Mathlib.Omega.{arith}
 use lib.Dec.{eqb, ltb, leb}
 use lib.ListN.{length, take, getD, length-take, List·getD-append}
@@ -13,10 +14,12 @@ use Rattle.records.specs.declared.format.HourRecord.{HourRecord}
 use Rattle.records.specs.declared.stream.Next.{Next}
 use Rattle.records.specs.declared.stream.Next.the-variants.{Whole, Broken, Partial}
 use Rattle.records.specs.Format.{numberAt, formats, fits, hourEnding}
-use Rattle.records.specs.Decoded.{lengthOf, isBroken}
+use Rattle.records.specs.Decoded.{lengthOf, isBroken, decoded}
+use Rattle.records.specs.Kinds.{ofHour}
 use Rattle.records.specs.Hours.{hourIndex}
 use Rattle.records.specs.Stream.{nextRecord}
 use Rattle.records.specs.Laws.{adjoining, dayOf}
+use Rattle.records.proofs.Frames.{hour-frame}
 
 pub fields-adjoin : adjoining formats ≡ true
 fields-adjoin = refl
@@ -111,6 +114,16 @@ whole-not-broken s n e = go (subst (Told s) e (told s))
           (omega (arith, stated-by-front n s (omega arith), length-take-le n s there)),
     )
 
+-- a record has a head of three bytes
+pub whole-least : (s : List ℕ) (n : ℕ) → nextRecord s ≡ Whole n → 3 ≤ n
+whole-least s n e = go (subst (Told s) e (told s))
+  where
+    go : Told s (Whole n) → 3 ≤ n
+    go (all, bounded, there) = omega arith
+
+pub broken-least : (s : List ℕ) → nextRecord s ≡ Broken → 3 ≤ length s
+broken-least s e = subst (Told s) e (told s) .0
+
 pub broken-stays : (s : List ℕ) → nextRecord s ≡ Broken → (t : List ℕ) (n : ℕ) → isBroken (take n (s ++ t)) ≡ true
 broken-stays s e t n = go (subst (Told s) e (told s)) (ltb (length (take n (s ++ t))) 3) refl
   where
@@ -126,3 +139,12 @@ broken-stays s e t n = go (subst (Told s) e (told s)) (ltb (length (take n (s ++
 
 pub partial-broken : (s : List ℕ) → nextRecord s ≡ Partial → isBroken s ≡ true
 partial-broken s e = subst (Told s) e (told s)
+
+-- an Hour at the start of a stream is its next record
+pub hour-next : (s : List ℕ) → ofHour false (λ h. true) (decoded (take 12 s)) ≡ true → nextRecord s ≡ Whole 12
+unfolding nextRecord
+hour-next s e =
+    let frame = hour-frame (take 12 s) e in
+    let there : 12 ≤ length s = omega (arith, sym (frame .0) ∙ length-take 12 s, min-le-right 12 (length s)) in
+    let stated : lengthOf s ≡ 9 = sym (stated-by-front 12 s (omega arith)) ∙ frame .1 in
+    simp (le-ltb (length s) 3 (omega arith), stated, le-ltb (length s) 12 there)

@@ -1,12 +1,12 @@
 -- What the frame of a string says of its length, and which row a length fits.
-use mathlib.Core.Path.{_≡_, refl}
+use mathlib.Core.Path.{_≡_, refl, sym, _∙_}
 use mathlib.Core.Bool.{Bool, true, false, cond, not, _||_, true≢false}
 use mathlib.Core.List.{List}
 use Prim.Native.Nat.{ℕ, _+_}
 use native.Mathlib.Omega.{arith}
 use lib.Dec.{eqb, ltb}
 use lib.ListN.{length}
-use borrow.Author.Tests.{eq-eqb, ne-eqb, eqb-true, not-false}
+use borrow.Author.Tests.{eq-eqb, ne-eqb, eqb-true, eqb-false, not-false}
 use Rattle.records.specs.declared.format.HourRecord.{HourRecord}
 use Rattle.records.specs.declared.format.Fault.{Fault}
 use Rattle.records.specs.declared.format.Fault.the-variants.{Broken, UnknownTag, WrongLength}
@@ -16,7 +16,6 @@ use Rattle.records.specs.declared.refusal.Asked.{Asked}
 use Rattle.records.specs.Format.{Format}
 use Rattle.records.specs.Decoded.{tagOf, lengthOf, isBroken, faultNumber, hourRecord, ofLength, framed, decoded}
 use Rattle.records.specs.Kinds.{ofHour}
-use Rattle.records.specs.Hours.{noHour, hourOf}
 use Rattle.records.specs.Refusal.{refusalOf}
 
 neither : (a b : Bool) → (a || b) ≡ false → (a ≡ false) × (b ≡ false)
@@ -48,40 +47,48 @@ fault-row a Broken = refl
 fault-row a UnknownTag = refl
 fault-row a WrongLength = refl
 
-abbrev pub hourIn : Record → HourRecord
-hourIn r = ofHour noHour (λ h. h) r
-
-hour-of-choice : (t : Bool) (a b : Record) → hourIn (cond t a b) ≡ cond t (hourIn a) (hourIn b)
-hour-of-choice true a b = refl
-hour-of-choice false a b = refl
-
-either-same : (t : Bool) (h : HourRecord) → cond t h h ≡ h
-either-same true h = refl
-either-same false h = refl
-
 -- An Hour record by its frame: twelve bytes, tag 5, and a stated length of 9.
-module _ (s : List ℕ) where
-  pub hour-framed : length s ≡ 12 → tagOf s ≡ 5 → lengthOf s ≡ 9 → decoded s ≡ Hour (hourRecord s)
-  unfolding decoded isBroken framed ofLength
-  hour-framed bytes tag stated = simp (bytes, tag, stated)
+pub hour-framed : (s : List ℕ) → length s ≡ 12 → tagOf s ≡ 5 → lengthOf s ≡ 9 → decoded s ≡ Hour (hourRecord s)
+unfolding decoded isBroken framed ofLength
+hour-framed s bytes tag stated = simp (bytes, tag, stated)
 
-  other-tag : eqb (tagOf s) 5 ≡ false → hourIn (framed s) ≡ noHour
-  unfolding framed ofLength
-  other-tag q = simp (q, hour-of-choice, either-same)
+-- whatever is made of an Hour record, and `other` of all the rest
+module _ {A : Type 0} (other : A) (given : HourRecord → A) where
+  of-choice : (t : Bool) (a b : Record) → ofHour other given (cond t a b) ≡ cond t (ofHour other given a) (ofHour other given b)
+  of-choice true a b = refl
+  of-choice false a b = refl
 
-  other-length : eqb (tagOf s) 5 ≡ true → eqb (lengthOf s) 9 ≡ false → hourIn (framed s) ≡ noHour
-  unfolding framed ofLength
-  other-length tag stated = simp (eqb-true (tagOf s) 5 tag, stated)
+  either-same : (t : Bool) → cond t other other ≡ other
+  either-same true = refl
+  either-same false = refl
 
-  pub no-hour : (length s ≡ 12 → tagOf s ≡ 5 → lengthOf s ≡ 9 → ⊥) → hourOf s ≡ noHour
-  unfolding decoded
-  no-hour ne = go (isBroken s) refl (eqb (tagOf s) 5) refl (eqb (lengthOf s) 9) refl
-    where
-      go : (b : Bool) → isBroken s ≡ b → (t : Bool) → eqb (tagOf s) 5 ≡ t → (l : Bool) → eqb (lengthOf s) 9 ≡ l
-          → hourIn (cond b (Unframed Broken) (framed s)) ≡ noHour
-      go true qb t qt l ql = refl
-      go false qb false qt l ql = other-tag qt
-      go false qb true qt false ql = other-length qt ql
-      go false qb true qt true ql =
-          let stated : lengthOf s ≡ 9 = eqb-true (lengthOf s) 9 ql in
-          absurd (ne (omega (arith, whole s qb, stated)) (eqb-true (tagOf s) 5 qt) stated)
+  module _ (s : List ℕ) where
+    other-tag : eqb (tagOf s) 5 ≡ false → ofHour other given (framed s) ≡ other
+    unfolding framed ofLength
+    other-tag q = simp (q, of-choice, either-same)
+
+    other-length : eqb (tagOf s) 5 ≡ true → eqb (lengthOf s) 9 ≡ false → ofHour other given (framed s) ≡ other
+    unfolding framed ofLength
+    other-length tag stated = simp (eqb-true (tagOf s) 5 tag, stated)
+
+    pub no-hour : (length s ≡ 12 → tagOf s ≡ 5 → lengthOf s ≡ 9 → ⊥) → ofHour other given (decoded s) ≡ other
+    unfolding decoded
+    no-hour ne = go (isBroken s) refl (eqb (tagOf s) 5) refl (eqb (lengthOf s) 9) refl
+      where
+        go : (b : Bool) → isBroken s ≡ b → (t : Bool) → eqb (tagOf s) 5 ≡ t → (l : Bool) → eqb (lengthOf s) 9 ≡ l
+            → ofHour other given (cond b (Unframed Broken) (framed s)) ≡ other
+        go true qb t qt l ql = refl
+        go false qb false qt l ql = other-tag qt
+        go false qb true qt false ql = other-length qt ql
+        go false qb true qt true ql =
+            let stated : lengthOf s ≡ 9 = eqb-true (lengthOf s) 9 ql in
+            absurd (ne (omega (arith, whole s qb, stated)) (eqb-true (tagOf s) 5 qt) stated)
+
+-- the other way round
+pub hour-frame : (s : List ℕ) → ofHour false (λ h. true) (decoded s) ≡ true → (length s ≡ 12) × (lengthOf s ≡ 9)
+hour-frame s e = go (eqb (length s) 12) refl (eqb (lengthOf s) 9) refl
+  where
+    go : (b : Bool) → eqb (length s) 12 ≡ b → (l : Bool) → eqb (lengthOf s) 9 ≡ l → (length s ≡ 12) × (lengthOf s ≡ 9)
+    go true qb true ql = (eqb-true (length s) 12 qb, eqb-true (lengthOf s) 9 ql)
+    go false qb l ql = absurd (true≢false (sym e ∙ no-hour false (λ h. true) s (λ bytes tag stated. eqb-false (length s) 12 qb bytes)))
+    go true qb false ql = absurd (true≢false (sym e ∙ no-hour false (λ h. true) s (λ bytes tag stated. eqb-false (lengthOf s) 9 ql stated)))

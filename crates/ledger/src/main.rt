@@ -1,0 +1,5 @@
+// The ledger program.
+mod pass;
+mod text;
+
+fn main() {}

@@ -1,0 +1,167 @@
+// The records of a buffer: each tried, counted, and its answer printed.
+use crate::text::put_end;
+use crate::text::put_lines;
+use crate::text::put_refusal;
+use book::Book;
+use records::decode::decode;
+use records::format::Record;
+use records::stream::Next;
+use records::stream::next_record;
+ghost use mathlib.Core.Path.{_≡_};
+ghost use Prim.Native.Nat.{_+_, _-_, _/_, _≤_, _<_, _^_};
+ghost use lib.ListN.{length, take};
+ghost use Rattle.book.specs.Books.{Sound};
+ghost use Rattle.book.specs.Runs.{hoursBetween};
+ghost use Rattle.ledger.specs.Passes.{postArea, stateOf, stoppedOf, tried, withHours, passed, ended, closed, Ready, free};
+
+// Where a run stands: the first `used` bytes of its buffer are the text to be printed.
+pub(crate) struct Tally {
+    pub book: Book,
+    pub tried: u64,
+    pub accepted: u64,
+    pub used: usize,
+}
+
+// Why a pass over a buffer stopped.
+pub(crate) enum Stop {
+    // There is no room for another answer.
+    Full,
+    // What is left is not a whole record.
+    Partial,
+    // A record was broken: nothing more is read.
+    Broken,
+}
+
+pub(crate) struct Pass {
+    pub tally: Tally,
+    // Where the record begins that the pass stopped at; a broken one takes all that is left.
+    pub next: usize,
+    pub stop: Stop,
+}
+
+// Hours that were taken, and where the next record begins.
+struct Taken {
+    tally: Tally,
+    next: usize,
+}
+
+// The area of a Post.
+fn post_area(bytes: &[u8]) -> u32
+    ensures { λ r. ⌜ r ≡ postArea (now (bytes .entry)) ⌝ }
+{
+    let r = decode(bytes);
+    match r {
+        Record::Unframed(_) => 0,
+        Record::Year(_) => 0,
+        Record::Area(_) => 0,
+        Record::Unit(_) => 0,
+        Record::Commitment(_) => 0,
+        Record::Hour(_) => 0,
+        Record::Load(_) => 0,
+        Record::Post(a) => a,
+    }
+}
+
+// A string is tried: entered, counted, and its answer printed.
+fn try_record(t: Tally, bytes: &[u8], out: &mut [u8]) -> Tally
+    requires { ⌜ Ready 1056 t (now out) × (t .tried + 1 < 2 ^ 64) ⌝ }
+    ensures { λ r. ⌜ (stateOf r (now (out .exit)) ≡ tried (stateOf t (now (out .entry))) (now (bytes .entry))) × Ready 0 r (now (out .exit)) × (r .used ≤ t .used + 1056) ⌝ }
+{
+    let a = t.book.enter(bytes);
+    let book = a.book;
+    let tried = t.tried + 1;
+    if a.number != 0 {
+        let used = put_refusal(out, t.used, tried, a.number);
+        return Tally {
+            book,
+            tried,
+            accepted: t.accepted,
+            used,
+        };
+    }
+    let lines = a.lines;
+    let used = put_lines(out, t.used, post_area(bytes), lines);
+    Tally {
+        book,
+        tried,
+        accepted: t.accepted + 1,
+        used,
+    }
+}
+
+// Accepted hours in a row: they are counted, and nothing is printed.
+fn take_hours(t: Tally, s: &[u8], from: usize) -> Taken
+    requires { ⌜ Sound (t .book) × (from ≤ length (now s)) × (t .accepted ≤ t .tried) × (t .tried + (length (now s) - from) < 2 ^ 64) ⌝ }
+    ensures { λ r. ⌜ (r ≡ withHours t from (hoursBetween (t .book) (now (s .entry)) from (length (now (s .entry))))) × Sound (r .tally .book) × (from ≤ r .next) ⌝ }
+{
+    let run = t.book.hours(s, from, s.len());
+    let next = run.next;
+    let hours = ((next - from) / 12) as u64;
+    let book = run.book;
+    Taken {
+        tally: Tally {
+            book,
+            tried: t.tried + hours,
+            accepted: t.accepted + hours,
+            used: t.used,
+        },
+        next,
+    }
+}
+
+// The records of s, until there is no room for another answer or no whole record is left.
+pub(crate) fn take_records(t: Tally, s: &[u8], out: &mut [u8]) -> Pass
+    requires { ⌜ Ready 0 t (now out) × (t .tried + length (now s) < 2 ^ 64) ⌝ }
+    ensures { λ r. ⌜ (stoppedOf r (now (out .exit)) ≡ passed (length (now (out .entry))) (stateOf t (now (out .entry))) (now (s .entry))) × Ready (free (r .stop)) (r .tally) (now (out .exit)) × (r .next ≤ length (now (s .entry))) × (r .tally .tried + (length (now (s .entry)) - r .next) ≤ t .tried + length (now (s .entry))) ⌝ }
+{
+    let mut tally = t;
+    let mut at: usize = 0;
+    loop {
+        if out.len() < tally.used + 1100 {
+            return Pass {
+                tally,
+                next: at,
+                stop: Stop::Full,
+            };
+        }
+        let taken = take_hours(tally, s, at);
+        let from = taken.next;
+        let counted = taken.tally;
+        let found = next_record(&s[from..]);
+        match found {
+            Next::Partial => {
+                return Pass {
+                    tally: counted,
+                    next: from,
+                    stop: Stop::Partial,
+                };
+            }
+            Next::Broken => {
+                let last = try_record(counted, &s[from..], out);
+                return Pass {
+                    tally: last,
+                    next: s.len(),
+                    stop: Stop::Broken,
+                };
+            }
+            Next::Whole(size) => {
+                let end = from + size;
+                let more = try_record(counted, &s[from..end], out);
+                tally = more;
+                at = end;
+            }
+        }
+    }
+}
+
+// The end of the input: what is left of it is a cut record, and is tried; then comes the last line. Answers where the text ends.
+pub(crate) fn finish(t: Tally, rest: &[u8], out: &mut [u8]) -> usize
+    requires { ⌜ Ready 1100 t (now out) × (t .tried + 1 < 2 ^ 64) ⌝ }
+    ensures { λ r. ⌜ (take r (now (out .exit)) ≡ closed (ended (stateOf t (now (out .entry))) (now (rest .entry)))) × (r ≤ length (now (out .exit))) ⌝ }
+{
+    if rest.len() == 0 {
+        return put_end(out, t.used, t.tried, t.accepted);
+    }
+    let last = try_record(t, rest, out);
+    put_end(out, last.used, last.tried, last.accepted)
+}
