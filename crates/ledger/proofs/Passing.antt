@@ -2,7 +2,7 @@
 use mathlib.Core.Path.{_≡_, refl, sym, ap, _∙_}
 use mathlib.Core.Bool.{Bool, true, false, cond, _&&_, false≢true}
 use mathlib.Core.List.{List, [], _∷_, append-nil}
-use Prim.Native.Nat.{ℕ, zero, suc, _+_, _*_, _-_, _/_, _≤_, _<_, min}
+use Prim.Native.Nat.{ℕ, zero, suc, _+_, _*_, _-_, _/_, _≤_, _<_}
 use native.Mathlib.Nat.{add-zero, le-refl, min-eq-left}
 use native.Mathlib.Numerals.{add-one}
 use native.Mathlib.Omega.{arith}
@@ -28,9 +28,10 @@ use Rattle.book.specs.Entered.{noLines, linesOf, entered}
 use Rattle.book.specs.Runs.{hourBytes, isAcceptedHour, hoursOf, hoursBetween}
 use Rattle.ledger.specs.declared.pass.Tally.{Tally}
 use Rattle.ledger.specs.declared.pass.Taken.{Taken}
+use Rattle.ledger.specs.declared.pass.Stop.{Stop}
 use Rattle.ledger.specs.declared.pass.Stop.the-variants as stop
 use Rattle.ledger.specs.Printed.{refusedLine, endLine, partyLines, answerText, Put}
-use Rattle.ledger.specs.Passes.{State, stateOf, postArea, tried, withHours, stopped, room, onNext, passOf, passed, ended, closed, Ready}
+use Rattle.ledger.specs.Passes.{State, stateOf, postArea, tried, withHours, stopped, room, onNext, passOf, passed, ended, closed, emptied, free, Ready}
 
 -- a state with so many hours more
 abbrev pub counted : State → Book → ℕ → State
@@ -208,6 +209,17 @@ nothing-left r (b ∷ s) e = absurd (omega (arith, e))
 pub cut-record : (r : State) (s : List ℕ) → (length s ≡ 0 → ⊥) → ended r s ≡ tried r s
 cut-record r [] ne = absurd (ne refl)
 cut-record r (b ∷ s) ne = refl
+
+-- the room that a stop leaves
+pub room-left : (t : Tally) (out : List ℕ) {s u : Stop} → s ≡ u → Ready (free s) t out → t .used + free u ≤ length out
+room-left t out e ready = rw e at (ready .2)
+
+-- an empty text leaves all the room
+pub printed-ready : (t : Tally) (out : List ℕ) {x : Tally} → x ≡ emptied t → Sound (t .book) → t .accepted ≤ t .tried → Ready 0 x out
+printed-ready t out e sound counted = rw e (sound, counted, omega arith)
+
+pub printed-tried : (t : Tally) {x : Tally} → x ≡ emptied t → x .tried ≡ t .tried
+printed-tried t e = ap (λ (x : Tally). x .tried) e
 
 -- The loop over a buffer of `size` bytes: what is left to do is what was to do at first.
 module _ (size : ℕ) (first : State) (tried₀ : ℕ) (s : List ℕ) where

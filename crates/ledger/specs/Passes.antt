@@ -1,7 +1,7 @@
 -- The records of a buffer, one after another. 01, The ledger program.
 use mathlib.Core.Bool.{cond}
 use mathlib.Core.List.{List, [], _∷_, _++_}
-use Prim.Native.Nat.{ℕ, zero, suc, _+_, _-_, _/_, _≤_}
+use Prim.Native.Nat.{ℕ, zero, suc, _+_, _-_, _/_, _^_, _≤_, _<_}
 use lib.Dec.{eqb, ltb}
 use lib.ListN.{length, take, drop}
 use Rattle.records.specs.declared.stream.Next.{Next}
@@ -112,3 +112,11 @@ abbrev pub free : Stop → ℕ
 free stop.Full = 0
 free stop.Partial = room
 free stop.Broken = 44
+
+-- a tally whose text was printed
+abbrev pub emptied : Tally → Tally
+emptied t = record { book = t .book; tried = t .tried; accepted = t .accepted; used = 0 }
+
+-- between two reads: `end` bytes of the input buffer are still to be tried, and of `left` more each record can be counted
+abbrev pub Running : Tally → ℕ → ℕ → List ℕ → List ℕ → Type 0
+Running t end left buf out = Ready 0 t out × (end ≤ length buf) × (t .tried + end + left < 2 ^ 64 - 1)

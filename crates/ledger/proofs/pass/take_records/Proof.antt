@@ -37,12 +37,12 @@ same-length : tie.Need-same-length Inv-loop μ-loop
 same-length c = search needs
 
 returns : tie.Need-returns Inv-loop μ-loop
-returns c = 
+returns c =
     let turn = c .before .before in
     (full _ _ _ _ (turn .loop .out) (turn .loop .tally) (turn .loop .at) (turn .loop .inv) (c .if1 .taken), turn .loop .inv .ready, turn .loop .inv .there, turn .loop .inv .counts)
 
 take-hours-requires : tie.Need-take-hours-requires Inv-loop μ-loop
-take-hours-requires c κs = 
+take-hours-requires c κs =
     let g = c .before .before .loop .inv in
     (g .ready .0, g .there, g .ready .1, omega (arith, g .counts, c .before .before .before .before .before .pre .1))
 
@@ -78,7 +78,7 @@ same-length-2 : tie.Need-same-length-2 Inv-loop μ-loop
 same-length-2 c = search needs
 
 returns-2 : tie.Need-returns-2 Inv-loop μ-loop
-returns-2 c = 
+returns-2 c =
     let g = counted (c .before .before .before .before) in
     (not-whole _ _ _ _ _ _ _ g (sym (found (c .before .before)) ∙ c .enum-told .given .1), g .ready, g .there, g .counts)
 
@@ -95,7 +95,7 @@ part-try-record-end : tie.Need-part-try-record-end Inv-loop μ-loop
 part-try-record-end c = omega arith
 
 try-record-requires : tie.Need-try-record-requires Inv-loop μ-loop
-try-record-requires c κs = 
+try-record-requires c κs =
     let g = counted (c .before .before .before .before .before .before) in
     let least = broken-least _ (sym (found (c .before .before .before .before)) ∙ c .before .before .enum-told2 .given .1) in
     ((g .ready .0, g .ready .1, omega (arith, g .ready .2)), omega (arith, g .counts, least, length-drop (c .before .before .before .before .before .before .before .take-hours .result .next) (now (c .before .before .before .before .before .before .before .before .before .before .before .before .before .args .s)), c .before .before .before .before .before .before .before .before .before .before .before .before .before .pre .1))
@@ -104,12 +104,11 @@ same-length-3 : tie.Need-same-length-3 Inv-loop μ-loop
 same-length-3 c = search needs
 
 returns-3 : tie.Need-returns-3 Inv-loop μ-loop
-returns-3 c = 
+returns-3 c =
     let g = counted (c .before .before .before .before .before .before .before .before .before) in
     let last = c .before .before .try-record .ensures in
     let s = now (c .before .before .before .before .before .before .before .before .before .before .before .before .before .before .before .before .args .s) in
-    let broken = sym (found (c .before .before .before .before .before .before .before)) ∙ c .before .before .before .before .before .enum-told2 .given .1 in
-    (
+    let broken = sym (found (c .before .before .before .before .before .before .before)) ∙ c .before .before .before .before .before .enum-told2 .given .1 in (
       is-broken _ _ _ _ _ _ _ g broken (last .0 ∙ ap (tried _) (rest-of s (c .before .before .before .before .before .before .before .before .before .before .take-hours .result .next))),
       (last .1 .0, last .1 .1, omega (arith, g .ready .2, last .2)),
       omega arith,
@@ -151,7 +150,7 @@ part-try-record-end-2 : tie.Need-part-try-record-end-2 Inv-loop μ-loop
 part-try-record-end-2 c = omega (arith, ends c .0)
 
 try-record-requires-2 : tie.Need-try-record-requires-2 Inv-loop μ-loop
-try-record-requires-2 c κs = 
+try-record-requires-2 c κs =
     let g = counted (c .before .before .before .before .before .before .before) in
     let inside = ends (c .before .before) in
     ((g .ready .0, g .ready .1, omega (arith, g .ready .2)), omega (arith, g .counts, inside .0, inside .1, c .before .before .before .before .before .before .before .before .before .before .before .before .before .before .pre .1))
@@ -160,7 +159,7 @@ loop-less : tie.Need-loop-less Inv-loop μ-loop
 loop-less c = omega (arith, ends (c .before .before .before .before .before) .0, ends (c .before .before .before .before .before) .1, c .before .before .before .before .before .before .before .before .before .before .before .take-hours .ensures .2)
 
 loop-again : tie.Need-loop-again Inv-loop μ-loop
-loop-again c = 
+loop-again c =
     let g = counted (c .before .before .before .before .before .before .before .before .before .before) in
     let more = c .before .before .try-record2 .ensures in
     let part = part-of (now (c .before .before .before .before .before .before .before .before .before .before .before .before .before .before .before .before .before .args .s)) (c .before .before .before .before .before .before .before .before .before .before .before .take-hours .result .next) _ in

@@ -21,8 +21,7 @@ returns : tie.Need-returns
 returns c =
     let start = c .before .before .before .before .before .before .before .before .before .before .before in
     let enter = c .before .before .before .before .before .before .before .before .enter .ensures in
-    let put = c .before .before .put-refusal .ensures in
-    (
+    let put = c .before .before .put-refusal .ensures in (
       refused-state (start .args .t) (now (start .args .bytes)) (enter .0) (c .before .before .before .before .if1 .taken) (put .0),
       (enter .1, omega (arith, start .pre .0 .1), omega (arith, start .pre .0 .2, put .1)),
       omega (arith, put .1),
@@ -45,8 +44,7 @@ returns-2 c =
     let start = c .before .before .before .before .before .before .before .before .before .before .before .before .before .before in
     let enter = c .before .before .before .before .before .before .before .before .before .before .before .enter .ensures in
     let put = c .before .before .before .put-lines .ensures in
-    let area = c .before .before .before .before .post-area .ensures in
-    (
+    let area = c .before .before .before .before .post-area .ensures in (
       accepted-state (start .args .t) (now (start .args .bytes)) (enter .0) (c .before .before .before .before .before .before .before .if1 .left) area (put .0),
       (enter .1, omega (arith, start .pre .0 .1), omega (arith, start .pre .0 .2, put .1)),
       omega (arith, put .1),
