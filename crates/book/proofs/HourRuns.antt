@@ -94,7 +94,8 @@ module _ (s : List ℕ) (first b : Book) (from at end : ℕ)
   unfolding hoursOf
   goes-on {b'} more taken e =
       let same : end - at - 12 ≡ end - (at + 12) = omega arith in
-      let one : hoursOf ((end - at) / 12) b s at ≡ hoursOf ((end - (at + 12)) / 12) b' s (at + 12) = rw (one-more (end - at) (leb-true 12 (end - at) more), taken, sym e, same) in
+      let one : hoursOf ((end - at) / 12) b s at ≡ hoursOf ((end - (at + 12)) / 12) b' s (at + 12)
+      = rw (one-more (end - at) (leb-true 12 (end - at) more), taken, sym e, same) in
       sym one ∙ left
 
   -- it stops at a record, or where less than one is left

@@ -120,7 +120,8 @@ module _ (size : ℕ) (s : List ℕ) where
           → HoursTaken n r from (hoursOf m (r .book) s from))
           → HoursTaken (suc n) r from (hoursOf (suc m) (r .book) s from)
       go true q rest =
-          let more : HoursTaken n (counted r next 1) (from + 12) (hoursOf m next s (from + 12)) = rest (counted r next 1) (from + 12) free (omega arith) (omega arith) in
+          let more : HoursTaken n (counted r next 1) (from + 12) (hoursOf m next s (from + 12))
+          = rest (counted r next 1) (from + 12) free (omega arith) (omega arith) in
           rw q
           (record {
             hours = suc (more .hours);

@@ -113,6 +113,10 @@ free stop.Full = 0
 free stop.Partial = room
 free stop.Broken = 44
 
+-- no more was tried than the bytes that were taken
+abbrev pub Left : ℕ → ℕ → ℕ → List ℕ → Type 0
+Left next counted before s = (next ≤ length s) × (counted + (length s - next) ≤ before + length s)
+
 -- a tally whose text was printed
 abbrev pub emptied : Tally → Tally
 emptied t = record { book = t .book; tried = t .tried; accepted = t .accepted; used = 0 }

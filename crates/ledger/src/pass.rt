@@ -12,7 +12,7 @@ ghost use Prim.Native.Nat.{_+_, _-_, _/_, _≤_, _<_, _^_};
 ghost use lib.ListN.{length, take};
 ghost use Rattle.book.specs.Books.{Sound};
 ghost use Rattle.book.specs.Runs.{hoursBetween};
-ghost use Rattle.ledger.specs.Passes.{postArea, stateOf, stoppedOf, tried, withHours, passed, ended, closed, Ready, free};
+ghost use Rattle.ledger.specs.Passes.{postArea, stateOf, stoppedOf, tried, withHours, passed, ended, closed, Ready, free, Left};
 
 // Where a run stands: the first `used` bytes of its buffer are the text to be printed.
 pub(crate) struct Tally {
@@ -65,7 +65,8 @@ fn post_area(bytes: &[u8]) -> u32
 // A string is tried: entered, counted, and its answer printed.
 fn try_record(t: Tally, bytes: &[u8], out: &mut [u8]) -> Tally
     requires { ⌜ Ready 1056 t (now out) × (t .tried + 1 < 2 ^ 64) ⌝ }
-    ensures { λ r. ⌜ (stateOf r (now (out .exit)) ≡ tried (stateOf t (now (out .entry))) (now (bytes .entry))) × Ready 0 r (now (out .exit)) × (r .used ≤ t .used + 1056) ⌝ }
+    ensures { λ r. ⌜ stateOf r (now (out .exit)) ≡ tried (stateOf t (now (out .entry))) (now (bytes .entry)) ⌝ }
+    ensures { λ r. ⌜ Ready 0 r (now (out .exit)) × (r .used ≤ t .used + 1056) ⌝ }
 {
     let a = t.book.enter(bytes);
     let book = a.book;
@@ -92,7 +93,8 @@ fn try_record(t: Tally, bytes: &[u8], out: &mut [u8]) -> Tally
 // Accepted hours in a row: they are counted, and nothing is printed.
 fn take_hours(t: Tally, s: &[u8], from: usize) -> Taken
     requires { ⌜ Sound (t .book) × (from ≤ length (now s)) × (t .accepted ≤ t .tried) × (t .tried + (length (now s) - from) < 2 ^ 64) ⌝ }
-    ensures { λ r. ⌜ (r ≡ withHours t from (hoursBetween (t .book) (now (s .entry)) from (length (now (s .entry))))) × Sound (r .tally .book) × (from ≤ r .next) ⌝ }
+    ensures { λ r. ⌜ r ≡ withHours t from (hoursBetween (t .book) (now (s .entry)) from (length (now (s .entry)))) ⌝ }
+    ensures { λ r. ⌜ Sound (r .tally .book) × (from ≤ r .next) ⌝ }
 {
     let run = t.book.hours(s, from, s.len());
     let next = run.next;
@@ -112,7 +114,8 @@ fn take_hours(t: Tally, s: &[u8], from: usize) -> Taken
 // The records of s, until there is no room for another answer or no whole record is left.
 pub(crate) fn take_records(t: Tally, s: &[u8], out: &mut [u8]) -> Pass
     requires { ⌜ Ready 0 t (now out) × (t .tried + length (now s) < 2 ^ 64) ⌝ }
-    ensures { λ r. ⌜ (stoppedOf r (now (out .exit)) ≡ passed (length (now (out .entry))) (stateOf t (now (out .entry))) (now (s .entry))) × Ready (free (r .stop)) (r .tally) (now (out .exit)) × (r .next ≤ length (now (s .entry))) × (r .tally .tried + (length (now (s .entry)) - r .next) ≤ t .tried + length (now (s .entry))) ⌝ }
+    ensures { λ r. ⌜ stoppedOf r (now (out .exit)) ≡ passed (length (now (out .entry))) (stateOf t (now (out .entry))) (now (s .entry)) ⌝ }
+    ensures { λ r. ⌜ Ready (free (r .stop)) (r .tally) (now (out .exit)) × Left (r .next) (r .tally .tried) (t .tried) (now (s .entry)) ⌝ }
 {
     let mut tally = t;
     let mut at: usize = 0;
@@ -157,7 +160,8 @@ pub(crate) fn take_records(t: Tally, s: &[u8], out: &mut [u8]) -> Pass
 // The end of the input: what is left of it is a cut record, and is tried; then comes the last line. Answers where the text ends.
 pub(crate) fn finish(t: Tally, rest: &[u8], out: &mut [u8]) -> usize
     requires { ⌜ Ready 1100 t (now out) × (t .tried + 1 < 2 ^ 64) ⌝ }
-    ensures { λ r. ⌜ (take r (now (out .exit)) ≡ closed (ended (stateOf t (now (out .entry))) (now (rest .entry)))) × (r ≤ length (now (out .exit))) ⌝ }
+    ensures { λ r. ⌜ take r (now (out .exit)) ≡ closed (ended (stateOf t (now (out .entry))) (now (rest .entry))) ⌝ }
+    ensures { λ r. ⌜ r ≤ length (now (out .exit)) ⌝ }
 {
     if rest.len() == 0 {
         return put_end(out, t.used, t.tried, t.accepted);

@@ -55,7 +55,8 @@ fn put_signed_field(out: &mut [u8], at: usize, v: i64) -> usize
 // Each kind of line has 1 byte for its letter, 21 for each number, 1 more for a sign, and 1 for its end.
 fn put_two(out: &mut [u8], at: usize, letter: u8, n: u64, k: u64) -> usize
     requires { ⌜ at + 44 ≤ length (now out) ⌝ }
-    ensures { λ r. ⌜ Put (now (out .entry)) at (letter ∷ [] ++ field (decimal n) ++ field (decimal k) ++ lineEnd) r (now (out .exit)) × (r ≤ at + 44) ⌝ }
+    ensures { λ r. ⌜ Put (now (out .entry)) at (letter ∷ [] ++ field (decimal n) ++ field (decimal k) ++ lineEnd) r (now (out .exit)) ⌝ }
+    ensures { λ r. ⌜ r ≤ at + 44 ⌝ }
 {
     let first = put(out, at, letter);
     let second = put_field(out, first, n);

@@ -35,7 +35,9 @@ loop-less c = omega arith
 loop-again : tie.Need-loop-again Inv-loop μ-loop
 loop-again c =
     let turn = c .before .before .loop in
-    (one-more (c .before .before .before .args .buf .now) (c .before .before .before .args .from) (turn .i) (turn .buf) (turn .inv .0) (omega (arith, turn .inv .0 .kept)), omega arith)
+    let start = c .before .before .before .args in
+    let moved = turn .inv .0 in
+    (one-more (start .buf .now) (start .from) (turn .i) (turn .buf) moved (omega (arith, moved .kept)), omega arith)
 
 same-length : tie.Need-same-length Inv-loop μ-loop
 same-length c = c .before .loop .inv .0 .kept

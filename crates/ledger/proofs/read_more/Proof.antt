@@ -69,9 +69,10 @@ same-length-4 c = search needs
 returns-3 : tie.Need-returns-3
 returns-3 c =
     let start = c .before .before .before .before .before .before .before .before .before .before .before .before .before .before .before .before in
+    let t = start .args .t in
     let e = c .printed .ensures in
-    let tried = printed-tried (start .args .t) e in
-    (printed-ready (start .args .t) (c .before .before .before .before .before .finish .last .1 .1 .0) e (start .pre .1 .0) (start .pre .1 .1), omega arith, omega (arith, tried, start .pre .0 .2))
+    let ready = printed-ready t (c .before .before .before .before .before .finish .last .1 .1 .0) e (start .pre .1 .0) (start .pre .1 .1) in
+    (ready, omega arith, omega (arith, printed-tried t e, start .pre .0 .2))
 
 sub-count : tie.Need-sub-count
 sub-count c = search needs

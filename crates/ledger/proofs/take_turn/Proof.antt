@@ -1,8 +1,13 @@
-use mathlib.Core.Path.{sym}
-use Prim.Native.Nat.{_+_, _-_, _^_, _≤_, _<_}
+use mathlib.Core.Path.{_≡_, sym}
+use mathlib.Core.List.{List}
+use Prim.Native.Nat.{ℕ, _+_, _-_, _^_, _≤_, _<_}
 use native.Mathlib.Omega.{arith}
+use lib.ListN.{length}
 use lib.Seq.{length-take-le}
 use denote.Ref.{now}
+use Rattle.ledger.specs.declared.pass.Tally.{Tally}
+use Rattle.ledger.specs.declared.pass.Stop.{Stop}
+use Rattle.ledger.specs.Passes.{emptied, Ready, free}
 use Rattle.ledger.proofs.Passing.{room-left, printed-ready, printed-tried}
 use borrow.Author.Needs.{needs}
 use Rattle.ledger.proofs.take_turn.Statement.{statement}
@@ -19,25 +24,44 @@ take-records-requires c κs =
     let start = c .before .before .before .before in
     (start .pre .0, omega (arith, start .pre .2, length-take-le (start .args .end) (now (start .args .buf)) (start .pre .1)))
 
+-- the start of the turn, and the records of its buffer, as they are seen further on
+abbrev start : tie.After-take-records → tie.Start
+start c = c .before .before .before .before .before
+
+abbrev taken : tie.After-carry → tie.After-take-records
+taken c = c .before .before .before .before .before
+
 -- what the records of the buffer leave of it, and their count
 left-over : (c : tie.After-take-records)
-    → (c .take-records .result .next ≤ c .before .before .before .before .before .args .end)
-    × (c .take-records .result .tally .tried + (c .before .before .before .before .before .args .end - c .take-records .result .next) ≤ c .before .before .before .before .before .args .t .tried + c .before .before .before .before .before .args .end)
+    → (c .take-records .result .next ≤ start c .args .end)
+    × (c .take-records .result .tally .tried + (start c .args .end - c .take-records .result .next) ≤ start c .args .t .tried + start c .args .end)
 left-over c =
-    let start = c .before .before .before .before .before in
-    let all = length-take-le (start .args .end) (now (start .args .buf)) (start .pre .1) in
-    (omega (arith, all, c .take-records .ensures .2), omega (arith, all, c .take-records .ensures .3))
+    let all = length-take-le (start c .args .end) (now (start c .args .buf)) (start c .pre .1) in
+    (omega (arith, all, c .take-records .ensures .1 .1 .0), omega (arith, all, c .take-records .ensures .1 .1 .1))
 
 carry-requires : tie.Need-carry-requires
 carry-requires c κs = (left-over (c .before .before .before .before) .0, omega arith)
 
 -- after what is left was carried to the start
 carried : (c : tie.After-carry)
-    → (c .carry .result ≤ c .before .before .before .before .before .before .before .before .before .before .args .end)
-    × (c .before .before .before .before .before .take-records .result .tally .tried + c .carry .result + c .before .before .before .before .before .before .before .before .before .before .args .left < 2 ^ 64 - 1)
+    → (c .carry .result ≤ start (taken c) .args .end)
+    × (taken c .take-records .result .tally .tried + c .carry .result + start (taken c) .args .left < 2 ^ 64 - 1)
 carried c =
-    let over = left-over (c .before .before .before .before .before) in
-    (omega (arith, c .carry .ensures .0), omega (arith, over .0, over .1, c .carry .ensures .0, c .before .before .before .before .before .before .before .before .before .before .pre .2))
+    let over = left-over (taken c) in
+    (omega (arith, c .carry .ensures .0), omega (arith, over .0, over .1, c .carry .ensures .0, start (taken c) .pre .2))
+
+-- the room that the records of the buffer leave, by why they stopped
+room : (c : tie.After-take-records) {u : Stop} → c .take-records .result .stop ≡ u
+    → c .take-records .result .tally .used + free u ≤ length (c .take-records .last .1 .1 .0)
+room c e = room-left (c .take-records .result .tally) (c .take-records .last .1 .1 .0) e (c .take-records .ensures .1 .0)
+
+-- the run goes on with its text printed
+printed : (c : tie.After-carry) (out : List ℕ) {x : Tally} → x ≡ emptied (taken c .take-records .result .tally)
+    → Ready 0 x out × (x .tried + c .carry .result + start (taken c) .args .left < 2 ^ 64 - 1)
+printed c out e =
+    let t = taken c .take-records .result .tally in
+    let ready = taken c .take-records .ensures .1 .0 in
+    (printed-ready t out e (ready .0) (ready .1), omega (arith, printed-tried t e, carried c .1))
 
 enum-told : tie.Need-enum-told
 enum-told c = search needs
@@ -46,7 +70,9 @@ slice-reshare-prefix-print : tie.Need-slice-reshare-prefix-print
 slice-reshare-prefix-print c = search needs
 
 slice-aggregate-print : tie.Need-slice-aggregate-print
-slice-aggregate-print c = sym (length-take-le _ _ (omega (arith, c .before .before .before .before .before .before .before .before .before .before .take-records .ensures .1 .2)))
+slice-aggregate-print c =
+    let records = c .before .before .before .before .before .before .before .before .before .before in
+    sym (length-take-le _ _ (omega (arith, records .take-records .ensures .1 .0 .2)))
 
 print-requires : tie.Need-print-requires
 print-requires c κs = search needs
@@ -58,17 +84,18 @@ enum-told-2 : tie.Need-enum-told-2
 enum-told-2 c = search needs
 
 put-end-requires : tie.Need-put-end-requires
-put-end-requires c κs = room-left _ (c .before .before .before .before .before .before .before .before .before .before .take-records .last .1 .1 .0) (c .before .enum-told2 .given .1) (c .before .before .before .before .before .before .before .before .before .before .take-records .ensures .1)
+put-end-requires c κs = room (c .before .before .before .before .before .before .before .before .before .before) (c .before .enum-told2 .given .1)
 
 slice-reshare-prefix-print-2 : tie.Need-slice-reshare-prefix-print-2
 slice-reshare-prefix-print-2 c =
-    let ready = room-left _ (c .before .before .before .before .before .before .before .before .before .before .before .before .before .take-records .last .1 .1 .0) (c .before .before .before .before .enum-told2 .given .1) (c .before .before .before .before .before .before .before .before .before .before .before .before .before .take-records .ensures .1) in
-    omega (arith, ready, c .before .before .put-end .ensures .1)
+    let records = c .before .before .before .before .before .before .before .before .before .before .before .before .before in
+    omega (arith, room records (c .before .before .before .before .enum-told2 .given .1), c .before .before .put-end .ensures .1)
 
 slice-aggregate-print-2 : tie.Need-slice-aggregate-print-2
 slice-aggregate-print-2 c =
-    let ready = room-left _ (c .before .before .before .before .before .before .before .before .before .before .before .before .before .before .take-records .last .1 .1 .0) (c .before .before .before .before .before .enum-told2 .given .1) (c .before .before .before .before .before .before .before .before .before .before .before .before .before .before .take-records .ensures .1) in
-    sym (length-take-le _ _ (omega (arith, ready, c .before .before .before .put-end .ensures .1)))
+    let records = c .before .before .before .before .before .before .before .before .before .before .before .before .before .before in
+    let free = room records (c .before .before .before .before .before .enum-told2 .given .1) in
+    sym (length-take-le _ _ (omega (arith, free, c .before .before .before .put-end .ensures .1)))
 
 print-requires-2 : tie.Need-print-requires-2
 print-requires-2 c κs = search needs
@@ -81,10 +108,11 @@ enum-told-3 c = search needs
 
 read-more-requires : tie.Need-read-more-requires
 read-more-requires c κs =
-    let ready = c .before .before .before .before .before .before .before .before .before .before .before .take-records .ensures .1 in
-    let free = room-left _ (c .before .before .before .before .before .before .before .before .before .before .before .take-records .last .1 .1 .0) (c .before .before .enum-told3 .given .1) ready in
-    let kept = carried (c .before .before .before .before .before .before) in
-    (((ready .0, ready .1, omega (arith, free)), omega (arith, kept .0, c .before .before .before .before .before .before .before .before .before .before .before .before .before .before .before .before .pre .1), kept .1), (ready .0, ready .1, free))
+    let carry = c .before .before .before .before .before .before in
+    let ready = taken carry .take-records .ensures .1 .0 in
+    let free = room (taken carry) (c .before .before .enum-told3 .given .1) in
+    let kept = carried carry in
+    (((ready .0, ready .1, omega (arith, free)), omega (arith, kept .0, start (taken carry) .pre .1), kept .1), (ready .0, ready .1, free))
 
 same-length : tie.Need-same-length
 same-length c = search needs
@@ -94,11 +122,9 @@ same-length-2 c = search needs
 
 returns : tie.Need-returns
 returns c =
-    let ready = c .before .before .before .before .before .before .before .before .before .before .before .before .take-records .ensures .1 in
-    let kept = carried (c .before .before .before .before .before .before .before) in
-    let e = c .printed .ensures in
-    let tried = printed-tried (c .before .before .before .before .before .before .before .before .before .before .before .before .take-records .result .tally) e in
-    (printed-ready (c .before .before .before .before .before .before .before .before .before .before .before .before .take-records .result .tally) (c .before .before .before .before .before .before .before .before .before .before .before .before .take-records .last .1 .1 .0) e (ready .0) (ready .1), omega (arith, kept .0, c .before .before .before .before .before .before .before .before .before .before .before .before .before .before .before .before .before .pre .1), omega (arith, tried, kept .1))
+    let carry = c .before .before .before .before .before .before .before in
+    let run = printed carry (taken carry .take-records .last .1 .1 .0) (c .printed .ensures) in
+    (run .0, omega (arith, carried carry .0, start (taken carry) .pre .1), run .1)
 
 same-length-3 : tie.Need-same-length-3
 same-length-3 c = search needs
@@ -108,11 +134,9 @@ same-length-4 c = search needs
 
 returns-2 : tie.Need-returns-2
 returns-2 c =
-    let ready = c .before .before .before .before .before .before .before .before .before .before .before .before .before .before .before .before .take-records .ensures .1 in
-    let kept = carried (c .before .before .before .before .before .before .before .before .before .before .before) in
-    let e = c .printed2 .ensures in
-    let tried = printed-tried (c .before .before .before .before .before .before .before .before .before .before .before .before .before .before .before .before .take-records .result .tally) e in
-    (printed-ready (c .before .before .before .before .before .before .before .before .before .before .before .before .before .before .before .before .take-records .result .tally) (c .before .before .before .before .before .put-end .last .0) e (ready .0) (ready .1), omega (arith, kept .0, c .before .before .before .before .before .before .before .before .before .before .before .before .before .before .before .before .before .before .before .before .before .pre .1), omega (arith, tried, kept .1))
+    let carry = c .before .before .before .before .before .before .before .before .before .before .before in
+    let run = printed carry (c .before .before .before .before .before .put-end .last .0) (c .printed2 .ensures) in
+    (run .0, omega (arith, carried carry .0, start (taken carry) .pre .1), run .1)
 
 same-length-5 : tie.Need-same-length-5
 same-length-5 c = search needs

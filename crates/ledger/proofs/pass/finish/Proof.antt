@@ -39,7 +39,7 @@ returns-2 c =
     let t = start .args .t in
     let rest = now (start .args .rest) in
     let cut = cut-record (stateOf t (now (start .args .out))) rest (c .before .before .before .before .before .before .before .before .if1 .left) in
-    (closed-by (last .result) (put .0) ∙ ap closed (last .ensures .0 ∙ sym cut), omega (arith, start .pre .0 .2, last .ensures .2, put .1))
+    (closed-by (last .result) (put .0) ∙ ap closed (last .ensures .0 ∙ sym cut), omega (arith, start .pre .0 .2, last .ensures .1 .1, put .1))
 
 pub finish-spec : {M : Type 1} → statement M
 finish-spec =

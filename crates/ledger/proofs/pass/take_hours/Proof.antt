@@ -30,7 +30,7 @@ returns c =
     let start = c .before .before .before .before .before in
     let hours = c .before .before .before .hours .ensures in
     let inside = hours-next _ (now (start .args .s)) _ (start .pre .1) (hours .0) in
-    (ap (withHours (start .args .t) (start .args .from)) (hours .0), hours .1, inside .0)
+    (ap (withHours (start .args .t) (start .args .from)) (hours .0), (hours .1, inside .0))
 
 pub take-hours-spec : {M : Type 1} → statement M
 take-hours-spec = tie.close (tie.spec hours-requires sub-hours add-t10 add-t11 returns)

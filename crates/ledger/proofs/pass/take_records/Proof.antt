@@ -1,4 +1,5 @@
 use mathlib.Core.Path.{_≡_, refl, sym, ap, _∙_}
+use mathlib.Core.List.{List}
 use Prim.Native.Nat.{ℕ, suc, _+_, _-_, _≤_}
 use native.Mathlib.Omega.{arith}
 use lib.ListN.{length, drop, length-drop}
@@ -39,21 +40,26 @@ same-length c = search needs
 returns : tie.Need-returns Inv-loop μ-loop
 returns c =
     let turn = c .before .before in
-    (full _ _ _ _ (turn .loop .out) (turn .loop .tally) (turn .loop .at) (turn .loop .inv) (c .if1 .taken), turn .loop .inv .ready, turn .loop .inv .there, turn .loop .inv .counts)
+    let g = turn .loop .inv in
+    (full _ _ _ _ (turn .loop .out) (turn .loop .tally) (turn .loop .at) g (c .if1 .taken), (g .ready, (g .there, g .counts)))
 
 take-hours-requires : tie.Need-take-hours-requires Inv-loop μ-loop
 take-hours-requires c κs =
     let g = c .before .before .loop .inv in
     (g .ready .0, g .there, g .ready .1, omega (arith, g .counts, c .before .before .before .before .before .pre .1))
 
+-- the start, as it is seen after the hours of a turn
+abbrev start : tie.After-counted Inv-loop μ-loop → tie.Start Inv-loop μ-loop
+start c = c .before .before .before .before .before .before .before
+
 -- after the hours of a turn
 counted : (c : tie.After-counted Inv-loop μ-loop)
-    → Counted (length (now (c .before .before .before .before .before .before .before .args .out))) (stateOf (c .before .before .before .before .before .before .before .args .t) (now (c .before .before .before .before .before .before .before .args .out))) (c .before .before .before .before .before .before .before .args .t .tried)
-    (now (c .before .before .before .before .before .before .before .args .s)) (c .before .before .before .before .loop .out) (c .before .take-hours .result .tally) (c .before .take-hours .result .next)
+    → Counted (length (now (start c .args .out))) (stateOf (start c .args .t) (now (start c .args .out))) (start c .args .t .tried) (now (start c .args .s))
+    (c .before .before .before .before .loop .out) (c .before .take-hours .result .tally) (c .before .take-hours .result .next)
 counted c =
     let turn = c .before .before .before .before in
     counted-hours _ _ _ _ (turn .loop .out) (turn .loop .tally) (turn .loop .at) (turn .loop .inv) (omega (arith, c .before .before .if1 .left))
-    (c .before .take-hours .ensures .0) (c .before .take-hours .ensures .1)
+    (c .before .take-hours .ensures .0) (c .before .take-hours .ensures .1 .0)
 
 sub-next-record : tie.Need-sub-next-record Inv-loop μ-loop
 sub-next-record c = omega (arith, counted c .there)
@@ -67,9 +73,16 @@ part-next-record-end c = omega arith
 next-record-requires : tie.Need-next-record-requires Inv-loop μ-loop
 next-record-requires c κs = search needs
 
+-- the records from the place on that the hours of a turn left
+abbrev rest : tie.After-counted Inv-loop μ-loop → List ℕ
+rest c = drop (c .before .take-hours .result .next) (now (start c .args .s))
+
+rest-length : (c : tie.After-counted Inv-loop μ-loop) → length (rest c) ≡ length (now (start c .args .s)) - c .before .take-hours .result .next
+rest-length c = length-drop (c .before .take-hours .result .next) (now (start c .args .s))
+
 -- what the next record was found to be
-found : (c : tie.After-next-record Inv-loop μ-loop) → c .next-record .result ≡ nextRecord (drop (c .before .before .before .take-hours .result .next) (now (c .before .before .before .before .before .before .before .before .before .args .s)))
-found c = c .next-record .ensures ∙ ap nextRecord (rest-of (now (c .before .before .before .before .before .before .before .before .before .args .s)) (c .before .before .before .take-hours .result .next))
+found : (c : tie.After-next-record Inv-loop μ-loop) → c .next-record .result ≡ nextRecord (rest (c .before .before))
+found c = c .next-record .ensures ∙ ap nextRecord (rest-of (now (start (c .before .before) .args .s)) (c .before .before .before .take-hours .result .next))
 
 enum-told : tie.Need-enum-told Inv-loop μ-loop
 enum-told c = search needs
@@ -80,7 +93,7 @@ same-length-2 c = search needs
 returns-2 : tie.Need-returns-2 Inv-loop μ-loop
 returns-2 c =
     let g = counted (c .before .before .before .before) in
-    (not-whole _ _ _ _ _ _ _ g (sym (found (c .before .before)) ∙ c .enum-told .given .1), g .ready, g .there, g .counts)
+    (not-whole _ _ _ _ _ _ _ g (sym (found (c .before .before)) ∙ c .enum-told .given .1), (g .ready, (g .there, g .counts)))
 
 enum-told-2 : tie.Need-enum-told-2 Inv-loop μ-loop
 enum-told-2 c = search needs
@@ -96,28 +109,26 @@ part-try-record-end c = omega arith
 
 try-record-requires : tie.Need-try-record-requires Inv-loop μ-loop
 try-record-requires c κs =
-    let g = counted (c .before .before .before .before .before .before) in
+    let hours = c .before .before .before .before .before .before in
+    let g = counted hours in
     let least = broken-least _ (sym (found (c .before .before .before .before)) ∙ c .before .before .enum-told2 .given .1) in
-    ((g .ready .0, g .ready .1, omega (arith, g .ready .2)), omega (arith, g .counts, least, length-drop (c .before .before .before .before .before .before .before .take-hours .result .next) (now (c .before .before .before .before .before .before .before .before .before .before .before .before .before .args .s)), c .before .before .before .before .before .before .before .before .before .before .before .before .before .pre .1))
+    ((g .ready .0, g .ready .1, omega (arith, g .ready .2)), omega (arith, g .counts, least, rest-length hours, start hours .pre .1))
 
 same-length-3 : tie.Need-same-length-3 Inv-loop μ-loop
 same-length-3 c = search needs
 
 returns-3 : tie.Need-returns-3 Inv-loop μ-loop
 returns-3 c =
-    let g = counted (c .before .before .before .before .before .before .before .before .before) in
+    let hours = c .before .before .before .before .before .before .before .before .before in
+    let g = counted hours in
     let last = c .before .before .try-record .ensures in
-    let s = now (c .before .before .before .before .before .before .before .before .before .before .before .before .before .before .before .before .args .s) in
-    let broken = sym (found (c .before .before .before .before .before .before .before)) ∙ c .before .before .before .before .before .enum-told2 .given .1 in (
-      is-broken _ _ _ _ _ _ _ g broken (last .0 ∙ ap (tried _) (rest-of s (c .before .before .before .before .before .before .before .before .before .before .take-hours .result .next))),
-      (last .1 .0, last .1 .1, omega (arith, g .ready .2, last .2)),
-      omega arith,
-      omega (
-        arith,
-        g .counts,
-        ap (λ (x : State). x .tried) (last .0) ∙ one-tried _ _,
-        broken-least _ broken,
-        length-drop (c .before .before .before .before .before .before .before .before .before .before .take-hours .result .next) s,
+    let broken = sym (found (c .before .before .before .before .before .before .before)) ∙ c .before .before .before .before .before .enum-told2 .given .1 in
+    let rest = rest-of (now (start hours .args .s)) (hours .before .take-hours .result .next) in
+    let one = ap (λ (x : State). x .tried) (last .0) ∙ one-tried _ _ in (
+      is-broken _ _ _ _ _ _ _ g broken (last .0 ∙ ap (tried _) rest),
+      (
+        (last .1 .0 .0, last .1 .0 .1, omega (arith, g .ready .2, last .1 .1)),
+        (omega arith, omega (arith, g .counts, one, broken-least _ broken, rest-length hours)),
       ),
     )
 
@@ -125,17 +136,17 @@ enum-known-found : tie.Need-enum-known-found Inv-loop μ-loop
 enum-known-found c = search needs
 
 -- a whole record, and where it ends
-whole : (c : tie.After-known-told Inv-loop μ-loop)
-    → nextRecord (drop (c .before .before .before .before .before .before .take-hours .result .next) (now (c .before .before .before .before .before .before .before .before .before .before .before .before .args .s))) ≡ Whole (c .before .found .given .0 .0)
+whole : (c : tie.After-known-told Inv-loop μ-loop) → nextRecord (rest (c .before .before .before .before .before)) ≡ Whole (c .before .found .given .0 .0)
 whole c = sym (found (c .before .before .before)) ∙ c .before .found .given .1
 
 ends : (c : tie.After-known-told Inv-loop μ-loop)
-    → (c .before .before .before .before .before .before .take-hours .result .next + c .before .found .given .0 .0 ≤ length (now (c .before .before .before .before .before .before .before .before .before .before .before .before .args .s))) × (3 ≤ c .before .found .given .0 .0)
+    → (c .before .before .before .before .before .before .take-hours .result .next + c .before .found .given .0 .0
+    ≤ length (now (start (c .before .before .before .before .before) .args .s)))
+    × (3 ≤ c .before .found .given .0 .0)
 ends c =
-    let s = now (c .before .before .before .before .before .before .before .before .before .before .before .before .args .s) in
-    let from = c .before .before .before .before .before .before .take-hours .result .next in
-    let most = whole-not-broken (drop from s) _ (whole c) .0 in
-    (omega (arith, counted (c .before .before .before .before .before) .there, most, length-drop from s), whole-least (drop from s) _ (whole c))
+    let hours = c .before .before .before .before .before in
+    let most = whole-not-broken (rest hours) _ (whole c) .0 in
+    (omega (arith, counted hours .there, most, rest-length hours), whole-least (rest hours) _ (whole c))
 
 add-end : tie.Need-add-end Inv-loop μ-loop
 add-end c = omega (arith, ends c .0)
@@ -151,19 +162,23 @@ part-try-record-end-2 c = omega (arith, ends c .0)
 
 try-record-requires-2 : tie.Need-try-record-requires-2 Inv-loop μ-loop
 try-record-requires-2 c κs =
-    let g = counted (c .before .before .before .before .before .before .before) in
+    let hours = c .before .before .before .before .before .before .before in
+    let g = counted hours in
     let inside = ends (c .before .before) in
-    ((g .ready .0, g .ready .1, omega (arith, g .ready .2)), omega (arith, g .counts, inside .0, inside .1, c .before .before .before .before .before .before .before .before .before .before .before .before .before .before .pre .1))
+    ((g .ready .0, g .ready .1, omega (arith, g .ready .2)), omega (arith, g .counts, inside .0, inside .1, start hours .pre .1))
 
 loop-less : tie.Need-loop-less Inv-loop μ-loop
-loop-less c = omega (arith, ends (c .before .before .before .before .before) .0, ends (c .before .before .before .before .before) .1, c .before .before .before .before .before .before .before .before .before .before .before .take-hours .ensures .2)
+loop-less c =
+    let inside = ends (c .before .before .before .before .before) in
+    let hours = c .before .before .before .before .before .before .before .before .before .before in
+    omega (arith, inside .0, inside .1, hours .before .take-hours .ensures .1 .1)
 
 loop-again : tie.Need-loop-again Inv-loop μ-loop
 loop-again c =
-    let g = counted (c .before .before .before .before .before .before .before .before .before .before) in
+    let hours = c .before .before .before .before .before .before .before .before .before .before in
     let more = c .before .before .try-record2 .ensures in
-    let part = part-of (now (c .before .before .before .before .before .before .before .before .before .before .before .before .before .before .before .before .before .args .s)) (c .before .before .before .before .before .before .before .before .before .before .before .take-hours .result .next) _ in
-    is-whole _ _ _ _ _ _ _ g _ (whole (c .before .before .before .before .before)) (more .0 ∙ ap (tried _) part) (more .1) (search needs)
+    let part = part-of (now (start hours .args .s)) (hours .before .take-hours .result .next) _ in
+    is-whole _ _ _ _ _ _ _ (counted hours) _ (whole (c .before .before .before .before .before)) (more .0 ∙ ap (tried _) part) (more .1 .0) (search needs)
 
 pub take-records-spec : {M : Type 1} → statement M
 take-records-spec =

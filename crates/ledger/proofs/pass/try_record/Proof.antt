@@ -23,8 +23,7 @@ returns c =
     let enter = c .before .before .before .before .before .before .before .before .enter .ensures in
     let put = c .before .before .put-refusal .ensures in (
       refused-state (start .args .t) (now (start .args .bytes)) (enter .0) (c .before .before .before .before .if1 .taken) (put .0),
-      (enter .1, omega (arith, start .pre .0 .1), omega (arith, start .pre .0 .2, put .1)),
-      omega (arith, put .1),
+      ((enter .1, omega (arith, start .pre .0 .1), omega (arith, start .pre .0 .2, put .1)), omega (arith, put .1)),
     )
 
 post-area-requires : tie.Need-post-area-requires
@@ -41,13 +40,13 @@ same-length-2 c = search needs
 
 returns-2 : tie.Need-returns-2
 returns-2 c =
-    let start = c .before .before .before .before .before .before .before .before .before .before .before .before .before .before in
-    let enter = c .before .before .before .before .before .before .before .before .before .before .before .enter .ensures in
+    let far = c .before .before .before .before .before .before in
+    let start = far .before .before .before .before .before .before .before .before in
+    let enter = far .before .before .before .before .before .enter .ensures in
     let put = c .before .before .before .put-lines .ensures in
     let area = c .before .before .before .before .post-area .ensures in (
-      accepted-state (start .args .t) (now (start .args .bytes)) (enter .0) (c .before .before .before .before .before .before .before .if1 .left) area (put .0),
-      (enter .1, omega (arith, start .pre .0 .1), omega (arith, start .pre .0 .2, put .1)),
-      omega (arith, put .1),
+      accepted-state (start .args .t) (now (start .args .bytes)) (enter .0) (far .before .if1 .left) area (put .0),
+      ((enter .1, omega (arith, start .pre .0 .1), omega (arith, start .pre .0 .2, put .1)), omega (arith, put .1)),
     )
 
 pub try-record-spec : {M : Type 1} → statement M
