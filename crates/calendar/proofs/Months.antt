@@ -1,11 +1,9 @@
 -- The months of a year, 0 to 12: computed tests, and what they say of each month.
 use mathlib.Core.Path.{_≡_, refl}
 use mathlib.Core.Bool.{Bool, true, false, cond, _&&_, _||_, and-false}
-use mathlib.Core.List.{List, [], _∷_}
 use Prim.Native.Nat.{ℕ, _+_, _<_, _≤_}
 use native.Mathlib.Omega.{arith}
 use lib.Dec.{leb, ltb, eqb}
-use lib.ListN.{getD}
 use borrow.Author.Tests.{eqb-true, ne-eqb, leb-true, lt-leb}
 use Rattle.calendar.specs.Sum.{sumBelow}
 use Rattle.calendar.specs.Range.{within}
@@ -13,19 +11,9 @@ use Rattle.calendar.specs.Gregorian.{monthDays}
 use Rattle.calendar.proofs.Tests.{allBelow, each-below}
 use Rattle.calendar.proofs.Sums.{sum-grows}
 
--- the tables of the code
-unfoldable pub lengths : List ℕ
-lengths = 0 ∷ 31 ∷ 28 ∷ 31 ∷ 30 ∷ 31 ∷ 30 ∷ 31 ∷ 31 ∷ 30 ∷ 31 ∷ 30 ∷ 31 ∷ []
-
-unfoldable pub before : List ℕ
-before = 0 ∷ 0 ∷ 31 ∷ 59 ∷ 90 ∷ 120 ∷ 151 ∷ 181 ∷ 212 ∷ 243 ∷ 273 ∷ 304 ∷ 334 ∷ []
-
 -- what is tested of each month
-abbrev lengthTest : Bool → ℕ → Bool
-lengthTest leap m = eqb m 2 || eqb (getD lengths m 0) (monthDays leap m)
-
 abbrev beforeTest : Bool → ℕ → Bool
-beforeTest leap m = eqb (getD before m 0 + cond (leap && ltb 2 m) 1 0) (sumBelow m (monthDays leap))
+beforeTest leap m = eqb (sumBelow m (monthDays false) + cond (leap && ltb 2 m) 1 0) (sumBelow m (monthDays leap))
 
 abbrev startTest : Bool → ℕ → Bool
 startTest leap m = eqb m 0 || leb 1 (monthDays leap m)
@@ -36,21 +24,13 @@ by-months : (test : Bool → ℕ → Bool) → allBelow 13 (test true) ≡ true 
 by-months test t f true m h = each-below 13 (test true) t m (omega arith)
 by-months test t f false m h = each-below 13 (test false) f m (omega arith)
 
-lengths-pass : (leap : Bool) (m : ℕ) → m ≤ 12 → lengthTest leap m ≡ true
-unfolding allBelow monthDays within lengths
-lengths-pass = by-months lengthTest refl refl
-
 before-pass : (leap : Bool) (m : ℕ) → m ≤ 12 → beforeTest leap m ≡ true
-unfolding allBelow sumBelow monthDays within before
+unfolding allBelow sumBelow monthDays within
 before-pass = by-months beforeTest refl refl
 
 starts-pass : (leap : Bool) (m : ℕ) → m ≤ 12 → startTest leap m ≡ true
 unfolding allBelow monthDays within
 starts-pass = by-months startTest refl refl
-
-pub february : (leap b : Bool) (m : ℕ) → leap ≡ b → m ≡ 2 → cond b 29 28 ≡ monthDays leap m
-unfolding monthDays
-february leap b m q e = simp (q, e)
 
 pub no-month : (leap : Bool) (m : ℕ) → 12 < m → monthDays leap m ≡ 0
 unfolding monthDays within
@@ -58,10 +38,7 @@ no-month leap m h =
     let not : (k : ℕ) → k ≤ 12 → eqb m k ≡ false = λ k le. ne-eqb m k (omega arith) in
     simp (not 2 (omega arith), not 4 (omega arith), not 6 (omega arith), not 9 (omega arith), not 11 (omega arith), lt-leb m 12 h, and-false)
 
-pub length-at : (leap : Bool) (m : ℕ) → m ≤ 12 → (m ≡ 2 → ⊥) → getD lengths m 0 ≡ monthDays leap m
-length-at leap m h ne = eqb-true _ _ (simp (ne-eqb m 2 ne) at (lengths-pass leap m h))
-
-pub before-at : (leap : Bool) (m : ℕ) → m ≤ 12 → getD before m 0 + cond (leap && ltb 2 m) 1 0 ≡ sumBelow m (monthDays leap)
+pub before-at : (leap : Bool) (m : ℕ) → m ≤ 12 → sumBelow m (monthDays false) + cond (leap && ltb 2 m) 1 0 ≡ sumBelow m (monthDays leap)
 before-at leap m h = eqb-true _ _ (before-pass leap m h)
 
 -- every month has a first day
@@ -85,6 +62,9 @@ pub before-january : (leap : Bool) → sumBelow 1 (monthDays leap) ≡ 0
 unfolding sumBelow monthDays within
 before-january true = refl
 before-january false = refl
+
+pub none-before : (leap : Bool) (m : ℕ) → m ≤ 1 → sumBelow m (monthDays leap) ≡ 0
+none-before leap m h = omega (arith, sum-grows m 1 (monthDays leap) h, before-january leap)
 
 pub before-june : (leap : Bool) → sumBelow 6 (monthDays leap) + 214 ≡ yearDays leap
 unfolding sumBelow monthDays within

@@ -1,10 +1,11 @@
 // The Gregorian calendar. Years are at most 2^32 and days below 2^32 where a sum must fit 64 bits.
 use crate::range::within;
 ghost use mathlib.Core.Path.{_≡_};
-ghost use mathlib.Core.Bool.{cond, _&&_};
+ghost use mathlib.Core.Bool.{false, cond, _&&_};
 ghost use Prim.Native.Nat.{_≤_, _<_, _^_};
 ghost use lib.Dec.{ltb};
-ghost use Rattle.calendar.specs.Gregorian.{leapYear, daysOfMonth, isDate, daysBeforeYear, daysBeforeMonth, dayOfYear, dayNumber};
+ghost use Rattle.calendar.specs.Sum.{sumBelow};
+ghost use Rattle.calendar.specs.Gregorian.{leapYear, monthDays, daysOfMonth, isDate, daysBeforeYear, daysBeforeMonth, dayOfYear, dayNumber};
 
 pub fn leap_year(year: u64) -> bool
     ensures { λ r. ⌜ r ≡ leapYear year ⌝ }
@@ -18,9 +19,6 @@ pub fn leap_year(year: u64) -> bool
     year % 400 == 0
 }
 
-// The days of each month, 1 to 12, in a common year.
-const DAYS: [u64; 13] = [0, 31, 28, 31, 30, 31, 30, 31, 31, 30, 31, 30, 31];
-
 fn days_of_month(year: u64, month: u64) -> u64
     ensures { λ r. ⌜ r ≡ daysOfMonth year month ⌝ }
 {
@@ -30,10 +28,22 @@ fn days_of_month(year: u64, month: u64) -> u64
         }
         return 28;
     }
-    if 12 < month {
-        return 0;
+    if month == 4 {
+        return 30;
     }
-    DAYS[month as usize]
+    if month == 6 {
+        return 30;
+    }
+    if month == 9 {
+        return 30;
+    }
+    if month == 11 {
+        return 30;
+    }
+    if within(1, 12, month) {
+        return 31;
+    }
+    0
 }
 
 pub fn is_date(year: u64, month: u64, day: u64) -> bool
@@ -63,13 +73,31 @@ fn leap_day(year: u64, month: u64) -> u64
 }
 
 // The days before each month, 1 to 12, in a common year.
-const BEFORE: [u64; 13] = [0, 0, 31, 59, 90, 120, 151, 181, 212, 243, 273, 304, 334];
+fn days_before(month: u64) -> u64
+    requires { ⌜ month ≤ 12 ⌝ }
+    ensures { λ r. ⌜ r ≡ sumBelow month (monthDays false) ⌝ }
+{
+    match month {
+        2 => 31,
+        3 => 59,
+        4 => 90,
+        5 => 120,
+        6 => 151,
+        7 => 181,
+        8 => 212,
+        9 => 243,
+        10 => 273,
+        11 => 304,
+        12 => 334,
+        _ => 0,
+    }
+}
 
 fn days_before_month(year: u64, month: u64) -> u64
     requires { ⌜ month ≤ 12 ⌝ }
     ensures { λ r. ⌜ (r ≡ daysBeforeMonth year month) × (r ≤ 366) ⌝ }
 {
-    BEFORE[month as usize] + leap_day(year, month)
+    days_before(month) + leap_day(year, month)
 }
 
 pub fn day_of_year(year: u64, month: u64, day: u64) -> u64

@@ -1,7 +1,7 @@
-use mathlib.Core.Bool.{true, false}
 use mathlib.Core.Path.{sym, _∙_}
 use borrow.Author.Needs.{needs}
-use Rattle.calendar.proofs.Months.{lengths, february, no-month, length-at}
+use borrow.Author.Tests.{ne-eqb}
+use Rattle.calendar.specs.Gregorian.{monthDays}
 use Rattle.calendar.proofs.gregorian.days_of_month.Statement.{statement}
 use Rattle.calendar.proofs.gregorian.days_of_month.Tie as tie
 
@@ -9,23 +9,55 @@ leap-year-requires : tie.Need-leap-year-requires
 leap-year-requires c κs = search needs
 
 returns : tie.Need-returns
-returns c = february _ true _ (sym (c .before .leap-year .ensures) ∙ c .if2 .taken) (c .before .before .if1 .taken)
+unfolding monthDays
+returns c = simp (sym (c .before .leap-year .ensures) ∙ c .if2 .taken, c .before .before .if1 .taken)
 
 returns-2 : tie.Need-returns-2
-returns-2 c = february _ false _ (sym (c .before .leap-year .ensures) ∙ c .if2 .left) (c .before .before .if1 .taken)
+unfolding monthDays
+returns-2 c = simp (sym (c .before .leap-year .ensures) ∙ c .if2 .left, c .before .before .if1 .taken)
 
 returns-3 : tie.Need-returns-3
-returns-3 c = sym (no-month _ _ (c .if3 .taken))
-
-mul-result : tie.Need-mul-result
-mul-result c = search needs
-
-array-read-result : tie.Need-array-read-result
-array-read-result c = search needs
+unfolding monthDays
+returns-3 c = simp (c .if3 .taken)
 
 returns-4 : tie.Need-returns-4
-unfolding lengths
-returns-4 c = length-at _ (c .before .before .args .month) (c .if3 .left) (c .before .if1 .left)
+unfolding monthDays
+returns-4 c = simp (c .if4 .taken)
+
+returns-5 : tie.Need-returns-5
+unfolding monthDays
+returns-5 c = simp (c .if5 .taken)
+
+returns-6 : tie.Need-returns-6
+unfolding monthDays
+returns-6 c = simp (c .if6 .taken)
+
+within-requires : tie.Need-within-requires
+within-requires c κs = search needs
+
+returns-7 : tie.Need-returns-7
+unfolding monthDays
+returns-7 c =
+    simp (
+      ne-eqb _ _ (c .before .before .before .before .before .before .if1 .left),
+      ne-eqb _ _ (c .before .before .before .before .before .if3 .left),
+      ne-eqb _ _ (c .before .before .before .before .if4 .left),
+      ne-eqb _ _ (c .before .before .before .if5 .left),
+      ne-eqb _ _ (c .before .before .if6 .left),
+      sym (c .before .within .ensures) ∙ c .if7 .taken,
+    )
+
+returns-8 : tie.Need-returns-8
+unfolding monthDays
+returns-8 c =
+    simp (
+      ne-eqb _ _ (c .before .before .before .before .before .before .if1 .left),
+      ne-eqb _ _ (c .before .before .before .before .before .if3 .left),
+      ne-eqb _ _ (c .before .before .before .before .if4 .left),
+      ne-eqb _ _ (c .before .before .before .if5 .left),
+      ne-eqb _ _ (c .before .before .if6 .left),
+      sym (c .before .within .ensures) ∙ c .if7 .left,
+    )
 
 pub days-of-month-spec : {M : Type 1} → statement M
 days-of-month-spec =
@@ -35,6 +67,9 @@ days-of-month-spec =
     returns
     returns-2
     returns-3
-    mul-result
-    array-read-result
-    returns-4)
+    returns-4
+    returns-5
+    returns-6
+    within-requires
+    returns-7
+    returns-8)
