@@ -79,8 +79,7 @@ onNext partial broken whole Broken = broken
 onNext partial broken whole Partial = partial
 
 -- The records of s from a place on, at most n of them, into a buffer of so many bytes. Each whole one is tried, until there is
--- no room for another answer or no whole record is left; a broken one is tried,
--- takes all that is left, and is the last.
+-- no room for another answer or no whole record is left; a broken one is tried, takes all that is left, and is the last.
 unfoldable pub passOf : ℕ → ℕ → State → List ℕ → ℕ → Stopped
 passOf zero size r s from = stopped r from stop.Partial
 passOf (suc n) size r s from =
@@ -103,7 +102,7 @@ ended r (b ∷ s) = tried r (b ∷ s)
 unfoldable pub closed : State → List ℕ
 closed r = r .text ++ endLine (r .tried) (r .accepted)
 
--- what holds of a tally between two records: its book is sound, no more was accepted than tried, and its buffer has room for so many bytes
+-- between two records: the book is sound, no more was accepted than tried, and the buffer has room for so many bytes
 abbrev pub Ready : ℕ → Tally → List ℕ → Type 0
 Ready free t out = Sound (t .book) × (t .accepted ≤ t .tried) × (t .used + free ≤ length out)
 

@@ -1,4 +1,5 @@
--- What is printed, as bytes in ASCII. 01, The ledger program.
+-- What is printed, as bytes in ASCII: 82 is R, 80 P, 69 E, 48 to 57 the digits, 45 the minus sign, 32 a blank and 10 the end of a line.
+-- 01, The ledger program.
 use mathlib.Core.Path.{_≡_}
 use mathlib.Core.Bool.{cond}
 use mathlib.Core.List.{List, [], _∷_, _++_}

@@ -13,7 +13,7 @@ use pass::finish;
 use pass::take_records;
 use text::put_end;
 ghost use mathlib.Core.Path.{_≡_};
-ghost use Prim.Native.Nat.{_+_, _-_, _≤_, _<_, _^_};
+ghost use Prim.Native.Nat.{_-_, _≤_};
 ghost use lib.ListN.{length, take, drop};
 ghost use Rattle.ledger.specs.Passes.{emptied, Ready, Running, room};
 
