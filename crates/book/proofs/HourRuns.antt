@@ -25,10 +25,10 @@ use Rattle.book.proofs.Soundness as sound
 use Rattle.book.proofs.Answers.{before, refused, accepted}
 
 -- twelve bytes hold one more than what is left without them does
-pub one-more : (n : ℕ) → 12 ≤ n → n / 12 ≡ suc ((n - 12) / 12)
+one-more : (n : ℕ) → 12 ≤ n → n / 12 ≡ suc ((n - 12) / 12)
 one-more n e = omega arith
 
-pub none-more : (n : ℕ) → n < 12 → n / 12 ≡ 0
+none-more : (n : ℕ) → n < 12 → n / 12 ≡ 0
 none-more n e = omega arith
 
 -- the slice that is read

@@ -191,7 +191,7 @@ impl Book {
         requires { ⌜ Sound self ⌝ }
         ensures { λ r. ⌜ (r ≡ hoursBetween self (now (s .entry)) from to) × Sound (r .book) ⌝ }
     {
-        let end = within(s, to);
+        let end = end_of(s, to);
         let mut at = from;
         while at < end && 12 <= end - at {
             let next = at + 12;
@@ -216,7 +216,7 @@ impl Book {
 }
 
 // The place `to`, or the end of s where that comes first.
-fn within(s: &[u8], to: usize) -> usize
+fn end_of(s: &[u8], to: usize) -> usize
     ensures { λ r. ⌜ r ≡ min to (length (now (s .entry))) ⌝ }
 {
     if to < s.len() {

@@ -7,7 +7,7 @@ ghost use lib.Dec.{ltb};
 ghost use Rattle.calendar.specs.Sum.{sumBelow};
 ghost use Rattle.calendar.specs.Gregorian.{leapYear, monthDays, daysOfMonth, isDate, daysBeforeYear, daysBeforeMonth, dayOfYear, dayNumber};
 
-pub fn leap_year(year: u64) -> bool
+pub(crate) fn leap_year(year: u64) -> bool
     ensures { λ r. ⌜ r ≡ leapYear year ⌝ }
 {
     if year % 4 != 0 {
@@ -46,7 +46,7 @@ fn days_of_month(year: u64, month: u64) -> u64
     0
 }
 
-pub fn is_date(year: u64, month: u64, day: u64) -> bool
+pub(crate) fn is_date(year: u64, month: u64, day: u64) -> bool
     ensures { λ r. ⌜ r ≡ isDate year month day ⌝ }
 {
     within(1, days_of_month(year, month), day)
@@ -100,14 +100,14 @@ fn days_before_month(year: u64, month: u64) -> u64
     days_before(month) + leap_day(year, month)
 }
 
-pub fn day_of_year(year: u64, month: u64, day: u64) -> u64
+pub(crate) fn day_of_year(year: u64, month: u64, day: u64) -> u64
     requires { ⌜ (month ≤ 12) × (day < 2 ^ 32) ⌝ }
     ensures { λ r. ⌜ (r ≡ dayOfYear year month day) × (r < 2 ^ 33) ⌝ }
 {
     days_before_month(year, month) + day
 }
 
-pub fn day_number(year: u64, month: u64, day: u64) -> u64
+pub(crate) fn day_number(year: u64, month: u64, day: u64) -> u64
     requires { ⌜ (year ≤ 2 ^ 32) × (month ≤ 12) × (day < 2 ^ 32) ⌝ }
     ensures { λ r. ⌜ (r ≡ dayNumber year month day) × (r < 2 ^ 42) ⌝ }
 {

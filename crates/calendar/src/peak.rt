@@ -49,7 +49,7 @@ fn is_peak_day(year: u64, month: u64, day: u64) -> bool
 }
 
 // The period is tested first: most hours are decided there, without a weekday.
-pub fn is_peak(year: u64, month: u64, day: u64, hour_ending: u64) -> bool
+pub(crate) fn is_peak(year: u64, month: u64, day: u64, hour_ending: u64) -> bool
     requires { ⌜ (year ≤ 2 ^ 32) × (day < 2 ^ 32) ⌝ }
     ensures { λ r. ⌜ r ≡ peakHour year month day «hour_ending» ⌝ }
 {

@@ -4,7 +4,7 @@ ghost use mathlib.Core.Path.{_≡_};
 ghost use Prim.Native.Nat.{_≤_, _<_, _^_};
 ghost use Rattle.calendar.specs.Week.{weekday, thirdMonday, isHoliday};
 
-pub fn weekday(year: u64, month: u64, day: u64) -> u64
+pub(crate) fn weekday(year: u64, month: u64, day: u64) -> u64
     requires { ⌜ (year ≤ 2 ^ 32) × (month ≤ 12) × (day < 2 ^ 32) ⌝ }
     ensures { λ r. ⌜ (r ≡ weekday year month day) × (r < 7) ⌝ }
 {
@@ -18,7 +18,7 @@ fn third_monday(year: u64, month: u64) -> u64
     1 + (7 - weekday(year, month, 1)) % 7 + 14
 }
 
-pub fn is_holiday(year: u64, month: u64, day: u64) -> bool
+pub(crate) fn is_holiday(year: u64, month: u64, day: u64) -> bool
     requires { ⌜ year ≤ 2 ^ 32 ⌝ }
     ensures { λ r. ⌜ r ≡ isHoliday year month day ⌝ }
 {

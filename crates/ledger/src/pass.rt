@@ -111,6 +111,9 @@ fn take_hours(t: Tally, s: &[u8], from: usize) -> Taken
     }
 }
 
+// What stays free for one more answer, sixteen lines of 66 bytes, and the last line of 44.
+const ROOM: usize = 1100;
+
 // The records of s, until there is no room for another answer or no whole record is left.
 pub(crate) fn take_records(t: Tally, s: &[u8], out: &mut [u8]) -> Pass
     requires { ⌜ Ready 0 t (now out) × (t .tried + length (now s) < 2 ^ 64) ⌝ }
@@ -120,7 +123,7 @@ pub(crate) fn take_records(t: Tally, s: &[u8], out: &mut [u8]) -> Pass
     let mut tally = t;
     let mut at: usize = 0;
     loop {
-        if out.len() < tally.used + 1100 {
+        if out.len() < tally.used + ROOM {
             return Pass {
                 tally,
                 next: at,

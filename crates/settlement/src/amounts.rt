@@ -11,52 +11,52 @@ ghost use lib.IntN.{pos, subℕ};
 ghost use Rattle.settlement.specs.Signed.{above, below};
 ghost use Rattle.settlement.specs.Quantities.{unforcedWatts, cents};
 
-pub fn watts_above(w: UnforcedWatts) -> u64
+pub(crate) fn watts_above(w: UnforcedWatts) -> u64
     ensures { λ r. ⌜ (r ≡ above (w .0)) × (r < 2 ^ 63) ⌝ }
 {
     above(w.0)
 }
 
-pub fn watts_below(w: UnforcedWatts) -> u64
+pub(crate) fn watts_below(w: UnforcedWatts) -> u64
     ensures { λ r. ⌜ (r ≡ below (w .0)) × (r ≤ 2 ^ 63) ⌝ }
 {
     below(w.0)
 }
 
-pub fn unforced_watts(w: u64) -> UnforcedWatts
+pub(crate) fn unforced_watts(w: u64) -> UnforcedWatts
     requires { ⌜ w < 2 ^ 63 ⌝ }
     ensures { λ r. ⌜ r ≡ unforcedWatts (pos w) ⌝ }
 {
     UnforcedWatts(w as i64)
 }
 
-pub fn unforced_difference(a: u64, b: u64) -> UnforcedWatts
+pub(crate) fn unforced_difference(a: u64, b: u64) -> UnforcedWatts
     requires { ⌜ (a < 2 ^ 63) × (b < 2 ^ 63) ⌝ }
     ensures { λ r. ⌜ r ≡ unforcedWatts (subℕ a b) ⌝ }
 {
     UnforcedWatts(difference(a, b))
 }
 
-pub fn cents_above(c: Cents) -> u64
+pub(crate) fn cents_above(c: Cents) -> u64
     ensures { λ r. ⌜ (r ≡ above (c .0)) × (r < 2 ^ 63) ⌝ }
 {
     above(c.0)
 }
 
-pub fn cents_below(c: Cents) -> u64
+pub(crate) fn cents_below(c: Cents) -> u64
     ensures { λ r. ⌜ (r ≡ below (c .0)) × (r ≤ 2 ^ 63) ⌝ }
 {
     below(c.0)
 }
 
-pub fn cents(c: u64) -> Cents
+pub(crate) fn cents(c: u64) -> Cents
     requires { ⌜ c < 2 ^ 63 ⌝ }
     ensures { λ r. ⌜ r ≡ cents (pos c) ⌝ }
 {
     Cents(c as i64)
 }
 
-pub fn cents_difference(a: u64, b: u64) -> Cents
+pub(crate) fn cents_difference(a: u64, b: u64) -> Cents
     requires { ⌜ (a < 2 ^ 63) × (b < 2 ^ 63) ⌝ }
     ensures { λ r. ⌜ r ≡ cents (subℕ a b) ⌝ }
 {

@@ -4,19 +4,19 @@ ghost use Prim.Native.Nat.{_≤_, _<_, _^_};
 ghost use lib.IntN.{subℕ};
 ghost use Rattle.settlement.specs.Signed.{above, below};
 
-pub fn above(x: i64) -> u64
+pub(crate) fn above(x: i64) -> u64
     ensures { λ r. ⌜ (r ≡ above x) × (r < 2 ^ 63) ⌝ }
 {
     if 0 < x { x as u64 } else { 0 }
 }
 
-pub fn below(x: i64) -> u64
+pub(crate) fn below(x: i64) -> u64
     ensures { λ r. ⌜ (r ≡ below x) × (r ≤ 2 ^ 63) ⌝ }
 {
     if x < 0 { (-(x + 1)) as u64 + 1 } else { 0 }
 }
 
-pub fn difference(a: u64, b: u64) -> i64
+pub(crate) fn difference(a: u64, b: u64) -> i64
     requires { ⌜ (a < 2 ^ 63) × (b < 2 ^ 63) ⌝ }
     ensures { λ r. ⌜ r ≡ subℕ a b ⌝ }
 {

@@ -20,8 +20,8 @@ Inv-loop s from to self₀ end at₀ self at = (hoursOf ((end - at) / 12) self s
 abbrev μ-loop : tie.MeasureT-loop
 μ-loop s from to self₀ end at₀ self at = end - at
 
-within-requires : tie.Need-within-requires Inv-loop μ-loop
-within-requires c κs = search needs
+end-of-requires : tie.Need-end-of-requires Inv-loop μ-loop
+end-of-requires c κs = search needs
 
 loop-holds : tie.Need-loop-holds Inv-loop μ-loop
 loop-holds c = (refl, c .before .before .pre)
@@ -39,7 +39,7 @@ part-hour-of-start : tie.Need-part-hour-of-start Inv-loop μ-loop
 part-hour-of-start c = omega arith
 
 part-hour-of-end : tie.Need-part-hour-of-end Inv-loop μ-loop
-part-hour-of-end c = inside _ _ _ (c .if1 .taken) (c .before .before .before .within .ensures)
+part-hour-of-end c = inside _ _ _ (c .if1 .taken) (c .before .before .before .end-of .ensures)
 
 hour-of-requires : tie.Need-hour-of-requires Inv-loop μ-loop
 hour-of-requires c κs = search needs
@@ -74,7 +74,7 @@ returns c =
     number-is b (Hour _) refl (c .before .before .before .before .before .place .ensures) (c .before .before .asked .ensures) (c .before .hour .ensures) in
     let more = c .before .before .before .before .before .before .before .before .if1 .taken in
     let other = hour-refused b _ read number (c .if2 .taken) in
-    (stops s (start .args .t1) b _ at _ (turn .loop .inv .0) _ (turn .before .within .ensures) more other, turn .loop .inv .1)
+    (stops s (start .args .t1) b _ at _ (turn .loop .inv .0) _ (turn .before .end-of .ensures) more other, turn .loop .inv .1)
 
 with-hour-requires : tie.Need-with-hour-requires Inv-loop μ-loop
 with-hour-requires c κs = c .before .before .before .before .before .before .before .before .before .before .loop .inv .1 .units _
@@ -109,7 +109,7 @@ returns-2 c =
     let turn = c .before .before in
     let start = turn .before .before .before in
     let s = now (start .args .s) in
-    let bound = turn .before .within .ensures in
+    let bound = turn .before .end-of .ensures in
     (ends s (start .args .t1) (turn .loop .self) _ (turn .loop .at) _ (turn .loop .inv .0) _ bound (leb-false 12 _ (c .if1 .left)), turn .loop .inv .1)
 
 returns-3 : tie.Need-returns-3 Inv-loop μ-loop
@@ -117,7 +117,7 @@ returns-3 c =
     let turn = c .before in
     let start = turn .before .before .before in
     let s = now (start .args .s) in
-    let bound = turn .before .within .ensures in
+    let bound = turn .before .end-of .ensures in
     (ends s (start .args .t1) (turn .loop .self) _ (turn .loop .at) _ (turn .loop .inv .0) _ bound (omega (arith, c .loop-test .left)), turn .loop .inv .1)
 
 pub hours-spec : {M : Type 1} → statement M
@@ -126,7 +126,7 @@ hours-spec =
     (tie.spec
     Inv-loop
     μ-loop
-    within-requires
+    end-of-requires
     loop-holds
     sub-if1
     add-next
