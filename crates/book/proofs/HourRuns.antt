@@ -21,7 +21,7 @@ use Rattle.book.specs.declared.Book.{Book}
 use Rattle.book.specs.declared.Answer.{Answer}
 use Rattle.book.specs.Entered.{noLines, answer, after, entered}
 use Rattle.book.specs.Runs.{hourBytes, isAcceptedHour, run, hoursOf, hoursBetween}
-use Rattle.book.proofs.Soundness as sound
+use Rattle.records.proofs.AcceptedRows as rows
 use Rattle.book.proofs.Answers.{before, refused, accepted}
 
 -- twelve bytes hold one more than what is left without them does
@@ -41,7 +41,7 @@ twelve s at = let size : at + 12 - at ≡ 12 = omega arith in ap (λ (k : ℕ). 
 -- row 6 fits the record of zeros
 no-hour-refused : (a : Asked) → refusalOf a (Hour noHour) ≡ 0 → ⊥
 unfolding hourFits within
-no-hour-refused a e = true≢false (sym (sound.accepted a (Hour noHour) e .in-range))
+no-hour-refused a e = true≢false (sym (rows.accepted a (Hour noHour) e .in-range))
 
 -- the hour that was read of a string, and the number that the rows give it
 module _ (b : Book) (s : List ℕ) {h : HourRecord} {n : ℕ} (read : h ≡ hourOf s) (number : n ≡ refusalOf (before b (Hour h)) (Hour h)) where

@@ -9,7 +9,7 @@ use native.Mathlib.Omega.{arith}
 use lib.IntN.{pos, natAbs}
 use lib.Dec.{eqb, ltb, leb}
 use lib.ListN.{length, getD, set, length-set, List·getD-eq-default}
-use borrow.Author.Tests.{ltb-true, ltb-false, leb-true, leb-false, eqb-true, not-false}
+use borrow.Author.Tests.{ltb-true, ltb-false, leb-true, leb-false, eqb-true}
 use Rattle.calendar.specs.DeliveryYear.{deliveryDays, isDeliveryDate}
 use Rattle.calendar.proofs.Tests.{within-from, within-to}
 use Rattle.calendar.proofs.DeliveryYears.{day-small}
@@ -25,17 +25,16 @@ use Rattle.records.specs.declared.format.HourRecord.{HourRecord}
 use Rattle.records.specs.declared.format.LoadRecord.{LoadRecord}
 use Rattle.records.specs.declared.format.Record.{Record}
 use Rattle.records.specs.declared.format.Record.the-variants.{Unframed, Year, Area, Unit, Commitment, Hour, Load, Post}
-use Rattle.records.specs.declared.refusal.Asked.{Asked}
 use Rattle.records.specs.Format.{Field, fits, yearYear, areaArea, areaPrice, unitUnit, unitArea, unitInstalled, unitE, unitF}
 use Rattle.records.specs.Format.{unitG, unitClass, commitmentNumber, commitmentUnit, commitmentParty}
 use Rattle.records.specs.Format.{commitmentWatts, hourUnit, hourEnding, loadArea, loadParty, loadObligation}
 use Rattle.records.specs.Decoded.{decoded}
 use Rattle.records.specs.Facts.{noArea, noCommitment}
 use Rattle.records.specs.Hours.{hourIndex, serviceHour, outageHour, deratedWatts, isPeak}
-use Rattle.records.specs.Refusal.{row, refusalOf, hasFault, noYear, secondYear, outOfRange, inRange, notEntered}
-use Rattle.records.specs.Refusal.{secondUnit, deratedOut, notLater, areaFits, unitFits, commitmentFits, hourFits, loadFits}
+use Rattle.records.specs.Refusal.{refusalOf, inRange, areaFits, unitFits, commitmentFits, hourFits, loadFits}
 use Rattle.records.specs.Dues.{dueIn}
 use Rattle.records.specs.Rules.{place, asked, refusal}
+use Rattle.records.proofs.AcceptedRows.{Accepted, accepted}
 use Rattle.book.specs.declared.Unit as unit
 use Rattle.book.specs.declared.Book.{Book}
 use Rattle.book.specs.Books.{noEntry, factsOfBook, emptyBook, areaParty, SoundUnit, SoundCommitment, Sound}
@@ -44,7 +43,7 @@ use Rattle.book.proofs.AreaNets.{days-in-range}
 
 -- what holds of the default and of every value of a list holds at every place, past the list's end too
 module _ {A : Type 0} (P : A → Type 0) (d : A) where
-  each-made : (n : ℕ) (f : ℕ → A) → P d → ((k : ℕ) → k < n → P (f k)) → (k : ℕ) → P (getD (listBelow n f) k d)
+  pub each-made : (n : ℕ) (f : ℕ → A) → P d → ((k : ℕ) → k < n → P (f k)) → (k : ℕ) → P (getD (listBelow n f) k d)
   each-made n f end all k = go (ltb k n) refl
     where
       go : (t : Bool) → ltb k n ≡ t → P (getD (listBelow n f) k d)
@@ -104,26 +103,6 @@ empty-sound =
       obligations = each-made ObligationFits 0 128 (λ k. 0) (omega arith) (λ k b. omega arith);
       posted = each-made SumFits (cents (pos 0)) 128 (λ k. cents (pos 0)) (omega arith) (λ k b. omega arith);
     }
-
--- a row that was passed: it does not fit, and the rows after it give 0 too
-passed-row : (n : ℕ) (t : Bool) {x : ℕ} → row (suc n) t x ≡ 0 → (t ≡ false) × (x ≡ 0)
-passed-row n true e = absurd (omega (arith, e))
-passed-row n false e = (refl, e)
-
--- what rows 6, 9 and 10 say of a record that no row refuses
-pub record Accepted (a : Asked) (r : Record) : Type 0 where
-  pub in-range : inRange (a .year) r ≡ true
-  pub not-out : deratedOut a r ≡ false
-  pub later : notLater a r ≡ false
-
-pub accepted : (a : Asked) (r : Record) → refusalOf a r ≡ 0 → Accepted a r
-unfolding refusalOf
-accepted a r e =
-    let row3 = passed-row 2 (hasFault 3 r) (passed-row 1 (hasFault 2 r) (passed-row 0 (hasFault 1 r) e .1) .1) in
-    let row6 = passed-row 5 (outOfRange a r) (passed-row 4 (secondYear a r) (passed-row 3 (noYear a r) (row3 .1) .1) .1) in
-    let row8 = passed-row 7 (secondUnit a r) (passed-row 6 (notEntered a r) (row6 .1) .1) in
-    let row9 = passed-row 8 (deratedOut a r) (row8 .1) in
-    record { in-range = not-false (inRange (a .year) r) (row6 .0); not-out = row9 .0; later = passed-row 9 (notLater a r) (row9 .1) .0 }
 
 -- a field's test that passed: the number is at most the field's greatest
 most-of : (f : Field) (n : ℕ) → fits f n ≡ true → n ≤ f .most

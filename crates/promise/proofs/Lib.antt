@@ -2,3 +2,10 @@ pub mod Example
 pub mod Runs
 pub mod AllFigures
 pub mod LineSums
+pub mod Falling
+pub mod AcceptedLists
+pub mod Agreement
+pub mod Meeting
+pub mod Posts
+pub mod StandingFacts
+pub mod Promised

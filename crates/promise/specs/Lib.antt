@@ -1,3 +1,6 @@
 pub mod Reckoning
+pub mod Standing
+pub mod Promise
+pub mod Logs
 pub mod Figures
 pub mod Laws

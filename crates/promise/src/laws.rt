@@ -1,11 +1,22 @@
 // A function with an empty body whose contract is a theorem: the gate asks for its proof by name.
 ghost use Rattle.calendar.specs.Figures.{EachGiven};
-ghost use Rattle.promise.specs.Laws.{LinesAddUp};
+ghost use Rattle.promise.specs.Promise.{Promise};
+ghost use Rattle.promise.specs.Laws.{LinesAddUp, SameAnswers};
 ghost use Rattle.promise.specs.Figures.{figureGiven, figures};
 
 // Figures a to j.
 pub fn figures()
     ensures { λ _. ⌜ EachGiven figureGiven figures ⌝ }
+{}
+
+// Demand 3.
+pub fn promised()
+    ensures { λ _. ⌜ Promise ⌝ }
+{}
+
+// The book's answers are the reckoning's, so that figure j is the book's too.
+pub fn answers()
+    ensures { λ _. ⌜ SameAnswers ⌝ }
 {}
 
 // The lines of the reckoning's posts add up to what it calls paid.

@@ -3,3 +3,4 @@ pub mod Frames
 pub mod Numbers
 pub mod Named
 pub mod FormatLaws
+pub mod AcceptedRows
