@@ -16,11 +16,10 @@ use records::places::place;
 use records::places::unit_named;
 use records::refusal::hour;
 use records::refusal::refusal;
+use records::stream::end_of;
 use settlement::Cents;
 use settlement::InstalledWatts;
 ghost use mathlib.Core.Path.{_≡_};
-ghost use Prim.Native.Nat.{min};
-ghost use lib.ListN.{length};
 ghost use Rattle.book.specs.Books.{emptyBook, Sound};
 ghost use Rattle.book.specs.Entered.{entered};
 ghost use Rattle.book.specs.Runs.{hoursBetween};
@@ -213,16 +212,6 @@ impl Book {
             book: self,
         }
     }
-}
-
-// The place `to`, or the end of s where that comes first.
-fn end_of(s: &[u8], to: usize) -> usize
-    ensures { λ r. ⌜ r ≡ min to (length (now (s .entry))) ⌝ }
-{
-    if to < s.len() {
-        return to;
-    }
-    s.len()
 }
 
 pub mod laws;

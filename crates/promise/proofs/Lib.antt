@@ -9,3 +9,4 @@ pub mod Meeting
 pub mod Posts
 pub mod StandingFacts
 pub mod Promised
+pub mod Storing

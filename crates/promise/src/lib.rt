@@ -1,2 +1,3 @@
-// The fresh reckoning (01, Area money), and figures a to j.
+// The fresh reckoning (01, Area money), the promise, the run of a whole log, and figures a to j.
 pub mod laws;
+pub mod log;

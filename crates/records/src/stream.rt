@@ -1,6 +1,8 @@
 // The next record of a stream.
 use crate::decode::pair;
 ghost use mathlib.Core.Path.{_≡_};
+ghost use Prim.Native.Nat.{min};
+ghost use lib.ListN.{length};
 ghost use Rattle.records.specs.Stream.{nextRecord};
 
 pub enum Next {
@@ -28,4 +30,14 @@ pub fn next_record(s: &[u8]) -> Next
         return Next::Partial;
     }
     Next::Whole(end)
+}
+
+// The place `to`, or the end of s where that comes first.
+pub fn end_of(s: &[u8], to: usize) -> usize
+    ensures { λ r. ⌜ r ≡ min to (length (now (s .entry))) ⌝ }
+{
+    if to < s.len() {
+        return to;
+    }
+    s.len()
 }
