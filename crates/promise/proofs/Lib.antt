@@ -10,3 +10,4 @@ pub mod Posts
 pub mod StandingFacts
 pub mod Promised
 pub mod Storing
+pub mod WholeLogs

@@ -19,6 +19,7 @@ use Rattle.book.specs.Entered.{after, noLines, linesOf, answer, entered, bookAf
 use Rattle.book.proofs.AreaMoney.{due-most}
 use Rattle.book.proofs.Soundness.{empty-sound, after-sound}
 use Rattle.promise.specs.Reckoning.{factsOfList, numberFor, reckon, acceptedOf}
+use Rattle.promise.specs.Laws.{SameFacts}
 use Rattle.promise.proofs.AcceptedLists.{Kept, kept-none, kept-more}
 use Rattle.promise.proofs.Agreement.{Agrees, agreed-facts, agrees-none, agrees-more}
 
@@ -92,5 +93,5 @@ all-meet b acc m [] = m
 all-meet b acc m (s ∷ ss) = all-meet (entered b s .book) (reckon acc s .accepted) (meets-next b acc m s) ss
 
 -- the book's facts are the reckoning's
-pub same-facts : (ss : List (List ℕ)) → factsOfBook (bookAfter emptyBook ss) ≡ factsOfList (acceptedOf [] ss)
+pub same-facts : SameFacts
 same-facts ss = agreed-facts (bookAfter emptyBook ss) (acceptedOf [] ss) (all-meet emptyBook [] meets-none ss .agrees)

@@ -1,13 +1,16 @@
--- What the reckoning's definitions give, for all lists, and what it has in common with the book.
+-- What the reckoning's definitions give, for all lists, what it has in common with the book, and that a log is any list.
 use mathlib.Core.Path.{_≡_}
-use mathlib.Core.List.{List, [], _∷_, map}
+use mathlib.Core.List.{List, [], _∷_, map, flatten}
 use Prim.Native.Nat.{ℕ, _+_}
 use lib.IntN.{_+ℤ_}
 use Rattle.records.specs.declared.format.Record.{Record}
 use Rattle.records.specs.declared.format.Record.the-variants.{Post}
 use Rattle.settlement.specs.Lists.{listBelow}
-use Rattle.promise.specs.Reckoning.{Answered, reckonedPaid, reckonedLine, answersOf}
+use Rattle.book.specs.Books.{factsOfBook, emptyBook}
+use Rattle.book.specs.Entered.{bookAfter}
+use Rattle.promise.specs.Reckoning.{Answered, factsOfList, reckonedPaid, reckonedLine, answersOf, acceptedOf}
 use Rattle.promise.specs.Promise.{Entry, fromEmpty, numberOf, lineOf}
+use Rattle.promise.specs.Logs.{strings, endsFrom}
 
 -- with each Post of an area the lines there so far grow by its lines
 abbrev pub LinesAddUp : Type 0
@@ -20,3 +23,11 @@ answered e = record { number = numberOf e; lines = listBelow 16 (lineOf e) }
 -- the book's answers to any strings, from the empty book on, are the reckoning's, line by line
 abbrev pub SameAnswers : Type 0
 SameAnswers = (ss : List (List ℕ)) → map answered (fromEmpty ss) ≡ answersOf [] ss
+
+-- after any strings the book's facts are the reckoning's
+abbrev pub SameFacts : Type 0
+SameFacts = (ss : List (List ℕ)) → factsOfBook (bookAfter emptyBook ss) ≡ factsOfList (acceptedOf [] ss)
+
+-- any list of strings is that of a log: of the strings end to end, with the place where each of them ends
+abbrev pub EveryLog : Type 0
+EveryLog = (ss : List (List ℕ)) → strings (flatten ss) (endsFrom 0 ss) ≡ ss

@@ -1,8 +1,8 @@
 -- A log: strings end to end in one slice, and in another the place where each of them ends.
 use mathlib.Core.List.{List, [], _∷_, map, flatMap}
-use Prim.Native.Nat.{ℕ, suc, _-_}
+use Prim.Native.Nat.{ℕ, suc, _+_, _-_}
 use lib.IntN.{ℤ}
-use lib.ListN.{take, drop, set}
+use lib.ListN.{length, take, drop, set}
 use Rattle.settlement.specs.declared.Cents.{Cents}
 use Rattle.promise.specs.Promise.{Entry, numberOf, run}
 
@@ -13,6 +13,11 @@ stringsFrom from bytes (end ∷ ends) = take (end - from) (drop from bytes) ∷ 
 
 abbrev pub strings : List ℕ → List ℕ → List (List ℕ)
 strings bytes ends = stringsFrom 0 bytes ends
+
+-- where strings end that stand end to end from a place on
+unfoldable pub endsFrom : ℕ → List (List ℕ) → List ℕ
+endsFrom from [] = []
+endsFrom from (s ∷ ss) = (from + length s) ∷ endsFrom (from + length s) ss
 
 -- values stored one after another from a place on; past the end of the list nothing is stored
 unfoldable pub storedFrom : {A : Type 0} → ℕ → List A → List A → List A

@@ -1,7 +1,7 @@
 // A function with an empty body whose contract is a theorem: the gate asks for its proof by name.
 ghost use Rattle.calendar.specs.Figures.{EachGiven};
 ghost use Rattle.promise.specs.Promise.{Promise};
-ghost use Rattle.promise.specs.Laws.{LinesAddUp, SameAnswers};
+ghost use Rattle.promise.specs.Laws.{LinesAddUp, SameAnswers, SameFacts, EveryLog};
 ghost use Rattle.promise.specs.Figures.{figureGiven, figures};
 
 // Figures a to j.
@@ -22,4 +22,14 @@ pub fn answers()
 // The lines of the reckoning's posts add up to what it calls paid.
 pub fn lines()
     ensures { λ _. ⌜ LinesAddUp ⌝ }
+{}
+
+// After any strings the book's facts are the reckoning's.
+pub fn facts()
+    ensures { λ _. ⌜ SameFacts ⌝ }
+{}
+
+// Any list of strings can be handed to `log::run`.
+pub fn logs()
+    ensures { λ _. ⌜ EveryLog ⌝ }
 {}
