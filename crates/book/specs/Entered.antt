@@ -1,7 +1,7 @@
 -- What a string is answered with, and the book after it. 01, Places of refusal, Hours and Area money.
 use mathlib.Core.Bool.{cond}
 use mathlib.Core.List.{List, [], _∷_}
-use Prim.Native.Nat.{ℕ, _+_, _*_, _/_, _%_}
+use Prim.Native.Nat.{ℕ, _+_, _/_, _%_}
 use lib.IntN.{pos}
 use lib.Dec.{eqb}
 use lib.ListN.{getD, set}

@@ -1,12 +1,12 @@
 -- What every list of accepted records satisfies, by the rows of refusal alone.
 use mathlib.Core.Path.{_≡_, refl, sym, ap, _∙_}
-use mathlib.Core.Bool.{Bool, true, false, cond, not, _&&_}
+use mathlib.Core.Bool.{Bool, true, false, cond, _&&_}
 use mathlib.Core.List.{List, [], _∷_}
 use Prim.Native.Nat.{ℕ, _+_, _-_, _<_}
 use native.Mathlib.Omega.{arith}
 use lib.IntN.{pos}
-use lib.Dec.{eqb, ltb}
-use borrow.Author.Tests.{ltb-true, ltb-false, leb-false, eqb-true, eqb-false, eq-eqb, ne-eqb, not-false}
+use lib.Dec.{eqb}
+use borrow.Author.Tests.{ltb-true, leb-false, eqb-true, eqb-false, eq-eqb, ne-eqb, not-false}
 use Rattle.calendar.specs.Range.{within}
 use Rattle.calendar.proofs.Tests.{within-from}
 use Rattle.settlement.specs.Signed.{sumBelowℤ}
@@ -16,7 +16,7 @@ use Rattle.records.specs.declared.format.UnitRecord.{UnitRecord}
 use Rattle.records.specs.declared.format.HourRecord.{HourRecord}
 use Rattle.records.specs.declared.format.Record.{Record}
 use Rattle.records.specs.declared.format.Record.the-variants.{Unframed, Year, Area, Unit, Commitment, Hour, Load, Post}
-use Rattle.records.specs.Format.{fits, yearYear, hourUnit, postArea}
+use Rattle.records.specs.Format.{fits, yearYear, hourUnit}
 use Rattle.records.specs.Refusal.{hourFits}
 use Rattle.records.specs.Hours.{hourIndex}
 use Rattle.records.specs.Facts.{isEntered}

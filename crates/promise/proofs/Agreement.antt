@@ -1,10 +1,10 @@
 -- A book and a list of accepted records that hold the same: one lemma a kind of record.
 use mathlib.Core.Path.{_≡_, refl, sym, ap, _∙_}
-use mathlib.Core.Bool.{Bool, true, false, cond, not, _&&_}
+use mathlib.Core.Bool.{Bool, true, false, cond, _&&_}
 use mathlib.Core.List.{List, [], _∷_}
-use Prim.Native.Nat.{ℕ, _+_, _-_, _*_, _/_, _%_, _≤_, _<_}
+use Prim.Native.Nat.{ℕ, _+_, _-_, _/_, _%_, _<_}
 use native.Mathlib.Omega.{arith}
-use lib.IntN.{ℤ, pos}
+use lib.IntN.{pos}
 use lib.Dec.{eqb, ltb}
 use lib.ListN.{length, getD, set}
 use lib.Seq.{getD-set-same, getD-set-other}
@@ -35,7 +35,7 @@ use Rattle.book.specs.declared.Unit as unit
 use Rattle.book.specs.declared.Book.{Book}
 use Rattle.book.specs.Books.{noEntry, areaParty, obligationIn, factsOfBook, postedIn, emptyBook, Sound}
 use Rattle.book.proofs.Soundness.{each-made}
-use Rattle.book.specs.Entered.{newUnit, withHour, withYear, postedAfter, afterPost, after}
+use Rattle.book.specs.Entered.{newUnit, withHour, postedAfter, after}
 use Rattle.promise.specs.Reckoning.{yearOf, latestArea, unitOf, latestCommitment, latestObligation, hoursOf, sumOver, lastIndex, factsOfList}
 use Rattle.promise.specs.Reckoning.{reckonedDue, reckonedPaid}
 use Rattle.promise.proofs.AcceptedLists.{Kept, named-by, named-place, before-year}

@@ -1,6 +1,4 @@
-pub mod Example
 pub mod Runs
-pub mod AllFigures
 pub mod LineSums
 pub mod Falling
 pub mod AcceptedLists
@@ -11,3 +9,5 @@ pub mod StandingFacts
 pub mod Promised
 pub mod Storing
 pub mod WholeLogs
+pub mod Example
+pub mod AllFigures

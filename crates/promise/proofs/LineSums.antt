@@ -1,11 +1,9 @@
 -- The reckoning's lines add up to what it calls paid.
-use mathlib.Core.Path.{_≡_, refl, sym, _∙_}
-use mathlib.Core.List.{List, _∷_}
-use Prim.Native.Nat.{ℕ, _+_}
+use mathlib.Core.Path.{refl, sym, _∙_}
+use Prim.Native.Nat.{_+_}
 use lib.IntN.{_+ℤ_, _-ℤ_, +ℤ-comm, -ℤ-+ℤ-cancel}
 use borrow.Author.Tests.{eq-eqb}
 use Rattle.settlement.specs.Money.{line}
-use Rattle.records.specs.declared.format.Record.{Record}
 use Rattle.promise.specs.Reckoning.{reckonedDue, reckonedPaid, reckonedLine}
 use Rattle.promise.specs.Laws.{LinesAddUp}
 

@@ -1,10 +1,8 @@
 -- The book and the list, string after string: every book reached is sound and holds what the list holds.
 use mathlib.Core.Path.{_≡_, refl, sym, ap, _∙_}
-use mathlib.Core.Bool.{Bool, true, false, cond, _&&_}
-use mathlib.Core.List.{List, [], _∷_, map}
-use Prim.Native.Nat.{ℕ, _+_, _-_, _<_}
-use native.Mathlib.Omega.{arith}
-use lib.IntN.{ℤ, pos}
+use mathlib.Core.Bool.{Bool, true, false}
+use mathlib.Core.List.{List, [], _∷_}
+use Prim.Native.Nat.{ℕ, _-_}
 use lib.Dec.{eqb}
 use borrow.Author.Tests.{eqb-true}
 use Rattle.records.specs.Decoded.{decoded}
@@ -20,6 +18,7 @@ use Rattle.book.proofs.AreaMoney.{due-most}
 use Rattle.book.proofs.Soundness.{empty-sound, after-sound}
 use Rattle.promise.specs.Reckoning.{factsOfList, numberFor, reckon, acceptedOf}
 use Rattle.promise.specs.Laws.{SameFacts}
+use Rattle.promise.proofs.Runs.{list-after, list-kept}
 use Rattle.promise.proofs.AcceptedLists.{Kept, kept-none, kept-more}
 use Rattle.promise.proofs.Agreement.{Agrees, agreed-facts, agrees-none, agrees-more}
 
@@ -55,23 +54,14 @@ module _ (b : Book) (acc : List Record) (m : Meets b acc) (s : List ℕ) where
   pub accepted-by : numberFor acc s ≡ 0 → Accepted (asked (factsOfList acc) (decoded s)) (decoded s)
   accepted-by e = accepted (asked (factsOfList acc) (decoded s)) (decoded s) (sym (rows-of (factsOfList acc) s) ∙ e)
 
-  -- the book and the list after an accepted string
+  -- the book after an accepted string, and after a refused one
   pub book-after : numberFor acc s ≡ 0 → entered b s ≡ answer 0 (linesOf b (decoded s)) (after b (decoded s))
   unfolding entered
   book-after e = rw (same-number, e)
 
-  pub list-after : numberFor acc s ≡ 0 → reckon acc s .accepted ≡ decoded s ∷ acc
-  unfolding reckon
-  list-after e = rw e
-
-  -- and after a refused one
   pub book-kept : eqb (numberFor acc s) 0 ≡ false → entered b s ≡ answer (numberFor acc s) noLines b
   unfolding entered
   book-kept q = rw (same-number, q)
-
-  pub list-kept : eqb (numberFor acc s) 0 ≡ false → reckon acc s .accepted ≡ acc
-  unfolding reckon
-  list-kept q = rw q
 
   pub meets-next : Meets (entered b s .book) (reckon acc s .accepted)
   meets-next = go (eqb (numberFor acc s) 0) refl
@@ -79,12 +69,12 @@ module _ (b : Book) (acc : List Record) (m : Meets b acc) (s : List ℕ) where
       go : (t : Bool) → eqb (numberFor acc s) 0 ≡ t → Meets (entered b s .book) (reckon acc s .accepted)
       go true q =
           let e : numberFor acc s ≡ 0 = eqb-true (numberFor acc s) 0 q in
-          rw (book-after e, list-after e) (record {
+          rw (book-after e, list-after acc s e) (record {
             sound = after-sound b (decoded s) (m .sound) (due-most b (m .sound)) (sym (rows-of (factsOfBook b) s) ∙ same-number ∙ e);
             agrees = agrees-more b acc (m .sound) (m .kept) (m .agrees) (decoded s) (accepted-by e);
             kept = kept-more acc (m .kept) (decoded s) (accepted-by e);
           })
-      go false q = rw (book-kept q, list-kept q) m
+      go false q = rw (book-kept q, list-kept acc s q) m
 
 -- after every list of strings
 pub all-meet : (b : Book) (acc : List Record) → Meets b acc → (ss : List (List ℕ)) → Meets (bookAfter b ss) (acceptedOf acc ss)

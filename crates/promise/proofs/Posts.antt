@@ -1,7 +1,7 @@
 -- A string's lines, in the book and in the reckoning.
 use mathlib.Core.Path.{_≡_, refl, sym, ap, _∙_}
 use mathlib.Core.Bool.{Bool, true, false, cond, true≢false, _&&_}
-use mathlib.Core.List.{List, [], _∷_}
+use mathlib.Core.List.{List, _∷_}
 use Prim.Native.Nat.{ℕ, zero, suc, _+_, _-_, _<_}
 use native.Mathlib.Omega.{arith}
 use lib.IntN.{ℤ, pos, _+ℤ_, +ℤ-idl, +ℤ-idr, +ℤ-assoc, +ℤ-comm}
@@ -20,9 +20,8 @@ use Rattle.records.specs.declared.format.Record.{Record}
 use Rattle.records.specs.declared.format.Record.the-variants.{Unframed, Year, Area, Unit, Commitment, Hour, Load, Post}
 use Rattle.records.specs.Decoded.{decoded}
 use Rattle.records.specs.Kinds.{ofPost}
-use Rattle.records.specs.Rules.{place}
 use Rattle.book.specs.declared.Book.{Book}
-use Rattle.book.specs.Entered.{noLines, postLines, linesOf, entered}
+use Rattle.book.specs.Entered.{noLines, postLines, entered}
 use Rattle.promise.specs.Reckoning.{yearOf, latestArea, unitOf, latestCommitment, latestObligation, hoursOf, factsOfList}
 use Rattle.promise.specs.Reckoning.{numberFor, reckon, reckonedDue, reckonedPaid, reckonedLine, lineFor, answerFor}
 use Rattle.promise.specs.Promise.{Entry, numberOf, lineOf, isPost}
@@ -30,7 +29,8 @@ use Rattle.promise.specs.Laws.{answered}
 use Rattle.promise.proofs.AcceptedLists.{named-place}
 use Rattle.promise.proofs.Agreement.{agreed-facts}
 use Rattle.promise.proofs.LineSums.{lines-add-up}
-use Rattle.promise.proofs.Meeting.{Meets, number-met, accepted-by, book-after, list-after, book-kept, list-kept, meets-next}
+use Rattle.promise.proofs.Runs.{list-after, list-kept}
+use Rattle.promise.proofs.Meeting.{Meets, number-met, accepted-by, book-after, book-kept, meets-next}
 
 -- a sum of sums
 sum-plusℤ : (n : ℕ) (f g : ℕ → ℤ) → sumBelowℤ n (λ k. f k +ℤ g k) ≡ sumBelowℤ n f +ℤ sumBelowℤ n g
@@ -100,18 +100,18 @@ module _ (b : Book) (acc : List Record) (m : Meets b acc) (s : List ℕ) where
       go : (t : Bool) → isPost a entry ≡ t → reckonedPaid (reckon acc s .accepted) a p ≡ reckonedPaid acc a p +ℤ cond t (lineOf entry p) (pos 0)
       go true q =
           let post = posted-by a q in
-          rw (list-after b acc m s (post .number), post .is-a-post, line-met a p h post) (lines-add-up acc a p)
+          rw (list-after acc s (post .number), post .is-a-post, line-met a p h post) (lines-add-up acc a p)
       go false q = rw (+ℤ-idr (reckonedPaid acc a p)) (other (eqb (numberFor acc s) 0) refl (rw (number-met b acc m s) at q))
         where
           other : (u : Bool) → eqb (numberFor acc s) 0 ≡ u → (u && ofPost false (λ n. eqb n (a + 1)) (decoded s)) ≡ false
               → reckonedPaid (reckon acc s .accepted) a p ≡ reckonedPaid acc a p
-          other true z x = rw (list-after b acc m s (eqb-true (numberFor acc s) 0 z)) (other-paid acc a p (decoded s) x)
-          other false z x = rw (list-kept b acc m s z)
+          other true z x = rw (list-after acc s (eqb-true (numberFor acc s) 0 z)) (other-paid acc a p (decoded s) x)
+          other false z x = rw (list-kept acc s z)
 
   -- a Post changes no fact, so that right after it what is paid is the due
   pub paid-due : (a p : ℕ) → Posted a → reckonedPaid (reckon acc s .accepted) a p ≡ reckonedDue (reckon acc s .accepted) a p
   unfolding reckonedPaid reckonedDue factsOfList yearOf latestArea unitOf latestCommitment latestObligation hoursOf
-  paid-due a p q = rw (list-after b acc m s (q .number), q .is-a-post, eq-eqb (a + 1) (a + 1) refl)
+  paid-due a p q = rw (list-after acc s (q .number), q .is-a-post, eq-eqb (a + 1) (a + 1) refl)
 
   -- its lines add up to 0: what is paid did before, and does after it
   pub lines-balance : (a : ℕ) → isPost a entry ≡ true → sumBelowℤ 16 (lineOf entry) ≡ pos 0

@@ -12,12 +12,22 @@ use Rattle.records.specs.Kinds.{ofPost}
 use Rattle.records.specs.Refusal.{refusalOf}
 use Rattle.records.specs.Facts.{Facts}
 use Rattle.records.specs.Rules.{asked, refusal}
-use Rattle.promise.specs.Reckoning.{factsOfList, Answered, reckon, reckonedLine, lineFor, answersOf}
+use Rattle.promise.specs.Reckoning.{factsOfList, Answered, numberFor, reckon, reckonedLine, lineFor, answersOf}
 use Rattle.promise.specs.Figures.{answer, noLines}
 
 number-of : (F : Facts) (s : List ℕ) (r : Record) (n : ℕ) → decoded s ≡ r → refusalOf (asked F r) r ≡ n → refusal F s ≡ n
 unfolding refusal
 number-of F s r n d e = rw d e
+
+module _ (acc : List Record) (s : List ℕ) where
+  -- the list after an accepted string, and after a refused one
+  pub list-after : numberFor acc s ≡ 0 → reckon acc s .accepted ≡ decoded s ∷ acc
+  unfolding reckon
+  list-after e = rw e
+
+  pub list-kept : eqb (numberFor acc s) 0 ≡ false → reckon acc s .accepted ≡ acc
+  unfolding reckon
+  list-kept q = rw q
 
 pub none-next : (acc : List Record) → answersOf acc [] ≡ []
 unfolding answersOf
@@ -27,10 +37,14 @@ module _ (s : List ℕ) (r : Record) (acc : List Record) (ss : List (List ℕ)) 
   pub accepted-next : {lines : List ℤ} → decoded s ≡ r → refusalOf (asked (factsOfList acc) r) r ≡ 0
       → listBelow 16 (λ p. ofPost (pos 0) (λ n. reckonedLine acc (n - 1) p) r) ≡ lines
       → answersOf (r ∷ acc) ss ≡ rest → answersOf acc (s ∷ ss) ≡ answer 0 lines ∷ rest
-  unfolding answersOf reckon lineFor listBelow
-  accepted-next d e l more = rw (number-of (factsOfList acc) s r 0 d e, d, l, more)
+  unfolding answersOf lineFor listBelow
+  accepted-next d e l more =
+      let number : numberFor acc s ≡ 0 = number-of (factsOfList acc) s r 0 d e in
+      rw (list-after acc s number, number, d, l, more)
 
   pub refused-next : (n : ℕ) → eqb n 0 ≡ false → decoded s ≡ r → refusalOf (asked (factsOfList acc) r) r ≡ n
       → answersOf acc ss ≡ rest → answersOf acc (s ∷ ss) ≡ answer n noLines ∷ rest
-  unfolding answersOf reckon lineFor listBelow
-  refused-next n q d e more = rw (number-of (factsOfList acc) s r n d e, q, more)
+  unfolding answersOf lineFor listBelow
+  refused-next n q d e more =
+      let number : numberFor acc s ≡ n = number-of (factsOfList acc) s r n d e in
+      rw (list-kept acc s (rw number q), number, q, more)
