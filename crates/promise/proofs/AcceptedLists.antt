@@ -24,21 +24,21 @@ use Rattle.records.specs.Dues.{dueIn, unplacedIn}
 use Rattle.records.specs.Rules.{place, asked}
 use Rattle.records.proofs.Named.{place-in-range}
 use Rattle.records.proofs.AcceptedRows.{Accepted}
-use Rattle.promise.specs.Reckoning.{yearOf, unitOf, hoursOf, lastIndex, factsOfList, reckonedDue, reckonedPaid}
+use Rattle.promise.specs.Reckoning.{yearOf, unitOf, acceptedHours, lastIndex, factsOfList, reckonedDue, reckonedPaid}
 use Rattle.promise.proofs.Falling.{Falling}
 
 pub record Kept (acc : List Record) : Type 0 where
   -- nothing is accepted before a year
   pub no-year : yearOf acc ≡ 0 → acc ≡ []
   -- a unit that is not entered has no hours
-  pub no-hours : (u : ℕ) → unitOf acc u .unit ≡ 0 → hoursOf acc u ≡ []
+  pub no-hours : (u : ℕ) → unitOf acc u .unit ≡ 0 → acceptedHours acc u ≡ []
   -- each hour of a unit is later than the one before it
-  pub falling : (u : ℕ) → Falling (yearOf acc) (hoursOf acc u)
+  pub falling : (u : ℕ) → Falling (yearOf acc) (acceptedHours acc u)
   -- an area's lines so far add up to 0
   pub balance : (a : ℕ) → sumBelowℤ 16 (reckonedPaid acc a) ≡ pos 0
 
 pub kept-none : Kept []
-unfolding yearOf hoursOf reckonedPaid sumBelowℤ
+unfolding yearOf acceptedHours reckonedPaid sumBelowℤ
 kept-none = record { no-year = λ e. refl; no-hours = λ u e. refl; falling = λ u. tt; balance = λ a. refl }
 
 -- place k is that of number n if n is k + 1
@@ -64,7 +64,7 @@ unfolding factsOfList
 before-year acc y k ok = k .no-year (eqb-true (yearOf acc) 0 (not-false (eqb (yearOf acc) 0) (with-passed _ (ok .first-year))))
 
 year-kept : (acc : List Record) (y : ℕ) → acc ≡ [] → fits yearYear y ≡ true → Kept (Year y ∷ acc)
-unfolding yearOf unitOf hoursOf reckonedPaid
+unfolding yearOf unitOf acceptedHours reckonedPaid
 year-kept acc y e ok =
     rw e (record {
       no-year = λ z. absurd (omega (arith, within-from (yearYear .least) (yearYear .most) y ok, z));
@@ -79,19 +79,19 @@ module _ (acc : List Record) (k : Kept acc) where
   has-year r q z = absurd (eqb-false (yearOf acc) 0 (with-passed (eqb (yearOf acc) 0) q) z)
 
   unit-kept : (r : UnitRecord) → (eqb (yearOf acc) 0 && true) ≡ false → Kept (Unit r ∷ acc)
-  unfolding yearOf unitOf hoursOf reckonedPaid
+  unfolding yearOf unitOf acceptedHours reckonedPaid
   unit-kept r q =
       record { no-year = has-year (Unit r) q; no-hours = λ u z. go u (eqb (r .unit) (u + 1)) refl z; falling = k .falling; balance = k .balance }
     where
-      go : (u : ℕ) (t : Bool) → eqb (r .unit) (u + 1) ≡ t → cond t r (unitOf acc u) .unit ≡ 0 → hoursOf acc u ≡ []
+      go : (u : ℕ) (t : Bool) → eqb (r .unit) (u + 1) ≡ t → cond t r (unitOf acc u) .unit ≡ 0 → acceptedHours acc u ≡ []
       go u true e z = absurd (omega (arith, eqb-true (r .unit) (u + 1) e, z))
       go u false e z = k .no-hours u z
 
   -- rows 7 and 10, passed by an Hour: its unit is entered, and it is later than the unit's last
   hour-kept : (h : HourRecord) → (eqb (yearOf acc) 0 && true) ≡ false → within 1 32 (h .unit) ≡ true
       → isEntered (unitOf acc (place 32 (h .unit)) .unit) ≡ true
-      → lastIndex (yearOf acc) (hoursOf acc (place 32 (h .unit))) < hourIndex (yearOf acc) h → Kept (Hour h ∷ acc)
-  unfolding yearOf unitOf hoursOf reckonedPaid
+      → lastIndex (yearOf acc) (acceptedHours acc (place 32 (h .unit))) < hourIndex (yearOf acc) h → Kept (Hour h ∷ acc)
+  unfolding yearOf unitOf acceptedHours reckonedPaid
   hour-kept h q fits entered later =
       record {
         no-year = has-year (Hour h) q;
@@ -100,19 +100,19 @@ module _ (acc : List Record) (k : Kept acc) where
         balance = k .balance;
       }
     where
-      none : (u : ℕ) (t : Bool) → eqb (h .unit) (u + 1) ≡ t → unitOf acc u .unit ≡ 0 → cond t (h ∷ hoursOf acc u) (hoursOf acc u) ≡ []
+      none : (u : ℕ) (t : Bool) → eqb (h .unit) (u + 1) ≡ t → unitOf acc u .unit ≡ 0 → cond t (h ∷ acceptedHours acc u) (acceptedHours acc u) ≡ []
       none u true e z =
           let is : unitOf acc (place 32 (h .unit)) .unit ≡ 0 = ap (λ (j : ℕ). unitOf acc j .unit) (named-place 32 (h .unit) u fits e) ∙ z in
           absurd (omega (arith, ltb-true 0 (unitOf acc (place 32 (h .unit)) .unit) entered, is))
       none u false e z = k .no-hours u z
 
-      falls : (u : ℕ) (t : Bool) → eqb (h .unit) (u + 1) ≡ t → Falling (yearOf acc) (cond t (h ∷ hoursOf acc u) (hoursOf acc u))
+      falls : (u : ℕ) (t : Bool) → eqb (h .unit) (u + 1) ≡ t → Falling (yearOf acc) (cond t (h ∷ acceptedHours acc u) (acceptedHours acc u))
       falls u true e = (rw (sym (named-place 32 (h .unit) u fits e)) later, k .falling u)
       falls u false e = k .falling u
 
   -- row 11, passed by a Post: the dues add up to 0
   post-kept : (n : ℕ) → (eqb (yearOf acc) 0 && true) ≡ false → within 1 8 n ≡ true → unplacedIn (factsOfList acc) (place 8 n) ≡ false → Kept (Post n ∷ acc)
-  unfolding yearOf unitOf hoursOf reckonedPaid reckonedDue dueIn unplacedIn
+  unfolding yearOf unitOf acceptedHours reckonedPaid reckonedDue dueIn unplacedIn
   post-kept n q fits placed =
       record { no-year = has-year (Post n) q; no-hours = k .no-hours; falling = k .falling; balance = λ a. go a (eqb n (a + 1)) refl }
     where
@@ -122,7 +122,7 @@ module _ (acc : List Record) (k : Kept acc) where
 
   -- the list with an accepted record more
   pub kept-more : (r : Record) → Accepted (asked (factsOfList acc) r) r → Kept (r ∷ acc)
-  unfolding factsOfList yearOf unitOf hoursOf reckonedPaid hourFits
+  unfolding factsOfList yearOf unitOf acceptedHours reckonedPaid hourFits
   kept-more (Unframed f) ok =
       record { no-year = has-year (Unframed f) (ok .has-year); no-hours = k .no-hours; falling = k .falling; balance = k .balance }
   kept-more (Year y) ok = year-kept acc y (before-year acc y k ok) (ok .in-range)

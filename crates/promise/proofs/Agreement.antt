@@ -36,7 +36,7 @@ use Rattle.book.specs.declared.Book.{Book}
 use Rattle.book.specs.Books.{noEntry, areaParty, obligationIn, factsOfBook, postedIn, emptyBook, Sound}
 use Rattle.book.proofs.Soundness.{each-made}
 use Rattle.book.specs.Entered.{newUnit, withHour, postedAfter, after}
-use Rattle.promise.specs.Reckoning.{yearOf, latestArea, unitOf, latestCommitment, latestObligation, hoursOf, sumOver, lastIndex, factsOfList}
+use Rattle.promise.specs.Reckoning.{yearOf, latestArea, unitOf, latestCommitment, latestObligation, acceptedHours, sumOver, lastIndex, factsOfList}
 use Rattle.promise.specs.Reckoning.{reckonedDue, reckonedPaid}
 use Rattle.promise.proofs.AcceptedLists.{Kept, named-by, named-place, before-year}
 
@@ -44,10 +44,10 @@ use Rattle.promise.proofs.AcceptedLists.{Kept, named-by, named-place, b
 abbrev unitFrom : List Record → ℕ → unit.Unit
 unitFrom acc k = record {
   entry = unitOf acc k;
-  sh = sumOver (serviceHour (yearOf acc)) (hoursOf acc k);
-  foh = sumOver (outageHour (yearOf acc)) (hoursOf acc k);
-  d = sumOver (deratedWatts (yearOf acc)) (hoursOf acc k);
-  last = lastIndex (yearOf acc) (hoursOf acc k);
+  sh = sumOver (serviceHour (yearOf acc)) (acceptedHours acc k);
+  foh = sumOver (outageHour (yearOf acc)) (acceptedHours acc k);
+  d = sumOver (deratedWatts (yearOf acc)) (acceptedHours acc k);
+  last = lastIndex (yearOf acc) (acceptedHours acc k);
 }
 
 pub record Agrees (b : Book) (acc : List Record) : Type 0 where
@@ -78,7 +78,7 @@ all-one : {A : Type 0} (n : ℕ) (x : A) (k : ℕ) → getD (listBelow n (λ j. 
 all-one n x k = each-made (λ c. c ≡ x) x n (λ j. x) refl (λ j h. refl) k
 
 pub agrees-none : Agrees emptyBook []
-unfolding yearOf latestArea unitOf latestCommitment latestObligation hoursOf sumOver lastIndex reckonedPaid
+unfolding yearOf latestArea unitOf latestCommitment latestObligation acceptedHours sumOver lastIndex reckonedPaid
 agrees-none =
     record {
       year = refl;
@@ -117,7 +117,7 @@ party-of a p h = omega arith
 
 module _ (b : Book) (acc : List Record) (s : Sound b) (k : Kept acc) (g : Agrees b acc) where
   area-agrees : (r : AreaRecord) → areaFits r ≡ true → Agrees (after b (Area r)) (Area r ∷ acc)
-  unfolding yearOf latestArea unitOf latestCommitment latestObligation hoursOf reckonedPaid areaFits
+  unfolding yearOf latestArea unitOf latestCommitment latestObligation acceptedHours reckonedPaid areaFits
   area-agrees r ok =
       record {
         year = g .year;
@@ -129,7 +129,7 @@ module _ (b : Book) (acc : List Record) (s : Sound b) (k : Kept acc) (g : Agrees
       }
 
   unit-agrees : (r : UnitRecord) → unitFits r ≡ true → isEntered (unitOf acc (place 32 (r .unit)) .unit) ≡ false → Agrees (after b (Unit r)) (Unit r ∷ acc)
-  unfolding yearOf latestArea unitOf latestCommitment latestObligation hoursOf sumOver lastIndex reckonedPaid unitFits
+  unfolding yearOf latestArea unitOf latestCommitment latestObligation acceptedHours sumOver lastIndex reckonedPaid unitFits
   unit-agrees r ok first =
       record {
         year = g .year;
@@ -143,23 +143,23 @@ module _ (b : Book) (acc : List Record) (s : Sound b) (k : Kept acc) (g : Agrees
       fit : within 1 32 (r .unit) ≡ true
       fit = both-true {a = fits unitUnit (r .unit)} ok .0
 
-      none : (j : ℕ) → eqb (r .unit) (j + 1) ≡ true → hoursOf acc j ≡ []
+      none : (j : ℕ) → eqb (r .unit) (j + 1) ≡ true → acceptedHours acc j ≡ []
       none j q =
           let is : unitOf acc (place 32 (r .unit)) .unit ≡ 0 = omega (arith, ltb-false 0 (unitOf acc (place 32 (r .unit)) .unit) first) in
           k .no-hours j (ap (λ (i : ℕ). unitOf acc i .unit) (sym (named-place 32 (r .unit) j fit q)) ∙ is)
 
       go : (j : ℕ) (t : Bool) → eqb (r .unit) (j + 1) ≡ t → cond t (newUnit r) (unitFrom acc j) ≡ record {
         entry = cond t r (unitOf acc j);
-        sh = sumOver (serviceHour (yearOf acc)) (hoursOf acc j);
-        foh = sumOver (outageHour (yearOf acc)) (hoursOf acc j);
-        d = sumOver (deratedWatts (yearOf acc)) (hoursOf acc j);
-        last = lastIndex (yearOf acc) (hoursOf acc j);
+        sh = sumOver (serviceHour (yearOf acc)) (acceptedHours acc j);
+        foh = sumOver (outageHour (yearOf acc)) (acceptedHours acc j);
+        d = sumOver (deratedWatts (yearOf acc)) (acceptedHours acc j);
+        last = lastIndex (yearOf acc) (acceptedHours acc j);
       }
       go j true q = rw (none j q)
       go j false q = refl
 
   commitment-agrees : (y : ℕ) (r : CommitmentRecord) → commitmentFits y r ≡ true → Agrees (after b (Commitment r)) (Commitment r ∷ acc)
-  unfolding yearOf latestArea unitOf latestCommitment latestObligation hoursOf reckonedPaid commitmentFits
+  unfolding yearOf latestArea unitOf latestCommitment latestObligation acceptedHours reckonedPaid commitmentFits
   commitment-agrees y r ok =
       record {
         year = g .year;
@@ -173,7 +173,7 @@ module _ (b : Book) (acc : List Record) (s : Sound b) (k : Kept acc) (g : Agrees
       }
 
   hour-agrees : (y : ℕ) (h : HourRecord) → hourFits y h ≡ true → Agrees (after b (Hour h)) (Hour h ∷ acc)
-  unfolding yearOf latestArea unitOf latestCommitment latestObligation hoursOf sumOver lastIndex reckonedPaid hourFits withHour
+  unfolding yearOf latestArea unitOf latestCommitment latestObligation acceptedHours sumOver lastIndex reckonedPaid hourFits withHour
   hour-agrees y h ok =
       record {
         year = g .year;
@@ -188,15 +188,15 @@ module _ (b : Book) (acc : List Record) (s : Sound b) (k : Kept acc) (g : Agrees
       fit = both-true {a = fits hourUnit (h .unit)} ok .0
 
       old : ℕ → List HourRecord
-      old j = hoursOf acc j
+      old j = acceptedHours acc j
 
       go : (j : ℕ) (t : Bool) → eqb (h .unit) (j + 1) ≡ t
           → cond t (withHour (b .year) (getD (b .units) (place 32 (h .unit)) noEntry) h) (unitFrom acc j) ≡ record {
             entry = unitOf acc j;
-            sh = sumOver (serviceHour (yearOf acc)) (cond t (h ∷ hoursOf acc j) (hoursOf acc j));
-            foh = sumOver (outageHour (yearOf acc)) (cond t (h ∷ hoursOf acc j) (hoursOf acc j));
-            d = sumOver (deratedWatts (yearOf acc)) (cond t (h ∷ hoursOf acc j) (hoursOf acc j));
-            last = lastIndex (yearOf acc) (cond t (h ∷ hoursOf acc j) (hoursOf acc j));
+            sh = sumOver (serviceHour (yearOf acc)) (cond t (h ∷ acceptedHours acc j) (acceptedHours acc j));
+            foh = sumOver (outageHour (yearOf acc)) (cond t (h ∷ acceptedHours acc j) (acceptedHours acc j));
+            d = sumOver (deratedWatts (yearOf acc)) (cond t (h ∷ acceptedHours acc j) (acceptedHours acc j));
+            last = lastIndex (yearOf acc) (cond t (h ∷ acceptedHours acc j) (acceptedHours acc j));
           }
       go j true q = rw (named-place 32 (h .unit) j fit q, g .year, g .units j)
       go j false q = refl
@@ -211,7 +211,7 @@ module _ (b : Book) (acc : List Record) (s : Sound b) (k : Kept acc) (g : Agrees
       go false et u eu = ne-eqb (areaParty a p) (areaParty i q) (λ e. eqb-false a i et (omega (arith, e)))
 
   load-agrees : (r : LoadRecord) → loadFits r ≡ true → Agrees (after b (Load r)) (Load r ∷ acc)
-  unfolding yearOf latestArea unitOf latestCommitment latestObligation hoursOf reckonedPaid loadFits
+  unfolding yearOf latestArea unitOf latestCommitment latestObligation acceptedHours reckonedPaid loadFits
   load-agrees r ok =
       record {
         year = g .year;
@@ -254,7 +254,7 @@ module _ (b : Book) (acc : List Record) (s : Sound b) (k : Kept acc) (g : Agrees
           last false = e
 
   post-agrees : (n : ℕ) → within 1 8 n ≡ true → Agrees (after b (Post n)) (Post n ∷ acc)
-  unfolding yearOf latestArea unitOf latestCommitment latestObligation hoursOf reckonedPaid reckonedDue postedAfter
+  unfolding yearOf latestArea unitOf latestCommitment latestObligation acceptedHours reckonedPaid reckonedDue postedAfter
   post-agrees n ok =
       record {
         year = g .year;
@@ -281,7 +281,7 @@ module _ (b : Book) (acc : List Record) (s : Sound b) (k : Kept acc) (g : Agrees
       go a p false q e = e
 
   year-agrees : (y : ℕ) → acc ≡ [] → Agrees (after b (Year y)) (Year y ∷ acc)
-  unfolding yearOf latestArea unitOf latestCommitment latestObligation hoursOf sumOver lastIndex reckonedPaid
+  unfolding yearOf latestArea unitOf latestCommitment latestObligation acceptedHours sumOver lastIndex reckonedPaid
   year-agrees y e =
       record {
         year = refl;
@@ -294,7 +294,7 @@ module _ (b : Book) (acc : List Record) (s : Sound b) (k : Kept acc) (g : Agrees
 
   -- the book after an accepted record, and the list with it
   pub agrees-more : (r : Record) → Accepted (asked (factsOfList acc) r) r → Agrees (after b r) (r ∷ acc)
-  unfolding factsOfList yearOf latestArea unitOf latestCommitment latestObligation hoursOf reckonedPaid
+  unfolding factsOfList yearOf latestArea unitOf latestCommitment latestObligation acceptedHours reckonedPaid
   agrees-more (Unframed f) ok = record {
     year = g .year;
     areas = g .areas;

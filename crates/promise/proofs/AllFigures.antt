@@ -15,10 +15,10 @@ use Rattle.records.specs.declared.format.Record.the-variants.{Year, Area, Unit,
 use Rattle.records.specs.Decoded.{isBroken, ofLength, framed, decoded}
 use Rattle.records.specs.Refusal.{areaFits, unitFits, commitmentFits, loadFits, refusalOf}
 use Rattle.records.specs.Rules.{place}
-use Rattle.promise.specs.Reckoning.{yearOf, latestArea, unitOf, latestCommitment, latestObligation, hoursOf, sumOver, lastIndex, factsOfList}
+use Rattle.promise.specs.Reckoning.{yearOf, latestArea, unitOf, latestCommitment, latestObligation, acceptedHours, sumOver, lastIndex, factsOfList}
 use Rattle.promise.specs.Reckoning.{Answered, answersOf}
 use Rattle.promise.specs.Figures.{year, area, unit, commitment, load, post, settled, figureGiven}
-use Rattle.promise.specs.Figures.{entered, enteredAnswers, reckonedRows, figures}
+use Rattle.promise.specs.Figures.{beforeLoads, beforeLoadsAnswers, reckonedRows, figures}
 use Rattle.promise.proofs.Runs.{none-next, accepted-next, refused-next}
 use Rattle.promise.proofs.Example.{area₁, unit₁, unit₂, commitment₁, commitment₂, load₅, load₇, unloaded, loaded}
 use Rattle.promise.proofs.Example.{first-number, second-number, unloaded-number, first-lines, second-lines}
@@ -30,10 +30,10 @@ after₂ = Area area₁ ∷ Year 2010 ∷ []
 abbrev after₄ : List Record
 after₄ = Unit unit₂ ∷ Unit unit₁ ∷ after₂
 
-entered-run : (ss : List (List ℕ)) {rest : List Answered} → answersOf unloaded ss ≡ rest → answersOf [] (entered ++ ss) ≡ enteredAnswers ++ rest
+before-loads-run : (ss : List (List ℕ)) {rest : List Answered} → answersOf unloaded ss ≡ rest → answersOf [] (beforeLoads ++ ss) ≡ beforeLoadsAnswers ++ rest
 unfolding numberAt isBroken ofLength framed decoded within place leapYear deliveryDays areaFits unitFits commitmentFits refusalOf listBelow
-    yearOf latestArea unitOf latestCommitment latestObligation hoursOf sumOver lastIndex factsOfList
-entered-run ss more =
+    yearOf latestArea unitOf latestCommitment latestObligation acceptedHours sumOver lastIndex factsOfList
+before-loads-run ss more =
     accepted-next (year 2010) (Year 2010) [] _ refl refl refl
     (accepted-next (area 1 9000) (Area area₁) (Year 2010 ∷ []) _ refl refl refl
     (accepted-next (unit 1 1 4500000 30000 5000 15000 0) (Unit unit₁) after₂ _ refl refl refl
@@ -44,13 +44,19 @@ entered-run ss more =
 reckoned-figures : EachGiven figureGiven reckonedRows
 unfolding numberAt isBroken ofLength framed decoded within place loadFits refusalOf listBelow yearOf latestArea factsOfList
 reckoned-figures = (
-  entered-run _
+  before-loads-run _
       (accepted-next (load 1 5 500000) (Load load₅) unloaded _ refl refl refl
       (accepted-next (load 1 7 600000) (Load load₇) (Load load₅ ∷ unloaded) _ refl refl refl
       (accepted-next (post 1) (Post 1) loaded _ refl first-number first-lines
       (accepted-next (post 1) (Post 1) (Post 1 ∷ loaded) _ refl second-number second-lines
       (refused-next (post 2) (Post 2) (Post 1 ∷ Post 1 ∷ loaded) [] 7 refl refl refl (none-next (Post 1 ∷ Post 1 ∷ loaded))))))),
-  (entered-run _ (refused-next (post 1) (Post 1) unloaded [] 11 refl refl unloaded-number (none-next unloaded)), tt),
+  (
+    before-loads-run _
+        (refused-next (post 1) (Post 1) unloaded _ 11 refl refl unloaded-number
+        (refused-next (post 1) (Post 1) unloaded _ 11 refl refl unloaded-number
+        (refused-next (post 2) (Post 2) unloaded [] 7 refl refl refl (none-next unloaded)))),
+    tt,
+  ),
 )
 
 pub figures-given : EachGiven figureGiven figures

@@ -33,7 +33,7 @@ use Rattle.records.specs.Facts.{Facts, noArea, noUnit, noCommitment}
 use Rattle.records.specs.Refusal.{refusalOf}
 use Rattle.records.specs.Rules.{place, asked}
 use Rattle.records.specs.Dues.{unitFacts, wattDaysFor, partFor, shareIn, netIn, dueIn, unplacedIn}
-use Rattle.promise.specs.Reckoning.{yearOf, latestArea, unitOf, latestCommitment, latestObligation, hoursOf, sumOver, lastIndex, factsOfList}
+use Rattle.promise.specs.Reckoning.{yearOf, latestArea, unitOf, latestCommitment, latestObligation, acceptedHours, sumOver, lastIndex, factsOfList}
 use Rattle.promise.specs.Reckoning.{reckonedDue, reckonedPaid, reckonedLine}
 use Rattle.promise.specs.Figures.{noLines, firstLines}
 
@@ -81,16 +81,16 @@ example o = record {
 }
 
 facts-unloaded : factsOfList unloaded ≡ example (λ a p. 0)
-unfolding factsOfList yearOf latestArea unitOf latestCommitment latestObligation hoursOf sumOver lastIndex
+unfolding factsOfList yearOf latestArea unitOf latestCommitment latestObligation acceptedHours sumOver lastIndex
 facts-unloaded = refl
 
 facts-loaded : factsOfList loaded ≡ example (latestObligation loaded)
-unfolding factsOfList yearOf latestArea unitOf latestCommitment latestObligation hoursOf sumOver lastIndex
+unfolding factsOfList yearOf latestArea unitOf latestCommitment latestObligation acceptedHours sumOver lastIndex
 facts-loaded = refl
 
 -- a Post changes no fact
 post-keeps : (n : ℕ) (acc : List Record) → factsOfList (Post n ∷ acc) ≡ factsOfList acc
-unfolding factsOfList yearOf latestArea unitOf latestCommitment latestObligation hoursOf
+unfolding factsOfList yearOf latestArea unitOf latestCommitment latestObligation acceptedHours
 post-keeps n acc = refl
 
 -- sums of which only the first two terms are other than 0

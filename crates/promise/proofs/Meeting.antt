@@ -16,7 +16,7 @@ use Rattle.book.specs.Books.{factsOfBook, emptyBook, Sound}
 use Rattle.book.specs.Entered.{after, noLines, linesOf, answer, entered, bookAfter}
 use Rattle.book.proofs.AreaMoney.{due-most}
 use Rattle.book.proofs.Soundness.{empty-sound, after-sound}
-use Rattle.promise.specs.Reckoning.{factsOfList, numberFor, reckon, acceptedOf}
+use Rattle.promise.specs.Reckoning.{factsOfList, numberFor, acceptedWith, acceptedOf}
 use Rattle.promise.specs.Laws.{SameFacts}
 use Rattle.promise.proofs.Runs.{list-after, list-kept}
 use Rattle.promise.proofs.AcceptedLists.{Kept, kept-none, kept-more}
@@ -63,10 +63,10 @@ module _ (b : Book) (acc : List Record) (m : Meets b acc) (s : List ℕ) where
   unfolding entered
   book-kept q = rw (same-number, q)
 
-  pub meets-next : Meets (entered b s .book) (reckon acc s .accepted)
+  pub meets-next : Meets (entered b s .book) (acceptedWith acc s)
   meets-next = go (eqb (numberFor acc s) 0) refl
     where
-      go : (t : Bool) → eqb (numberFor acc s) 0 ≡ t → Meets (entered b s .book) (reckon acc s .accepted)
+      go : (t : Bool) → eqb (numberFor acc s) 0 ≡ t → Meets (entered b s .book) (acceptedWith acc s)
       go true q =
           let e : numberFor acc s ≡ 0 = eqb-true (numberFor acc s) 0 q in
           rw (book-after e, list-after acc s e) (record {
@@ -80,7 +80,7 @@ module _ (b : Book) (acc : List Record) (m : Meets b acc) (s : List ℕ) where
 pub all-meet : (b : Book) (acc : List Record) → Meets b acc → (ss : List (List ℕ)) → Meets (bookAfter b ss) (acceptedOf acc ss)
 unfolding acceptedOf
 all-meet b acc m [] = m
-all-meet b acc m (s ∷ ss) = all-meet (entered b s .book) (reckon acc s .accepted) (meets-next b acc m s) ss
+all-meet b acc m (s ∷ ss) = all-meet (entered b s .book) (acceptedWith acc s) (meets-next b acc m s) ss
 
 -- the book's facts are the reckoning's
 pub same-facts : SameFacts

@@ -22,8 +22,8 @@ use Rattle.records.specs.Decoded.{decoded}
 use Rattle.records.specs.Kinds.{ofPost}
 use Rattle.book.specs.declared.Book.{Book}
 use Rattle.book.specs.Entered.{noLines, postLines, entered}
-use Rattle.promise.specs.Reckoning.{yearOf, latestArea, unitOf, latestCommitment, latestObligation, hoursOf, factsOfList}
-use Rattle.promise.specs.Reckoning.{numberFor, reckon, reckonedDue, reckonedPaid, reckonedLine, lineFor, answerFor}
+use Rattle.promise.specs.Reckoning.{yearOf, latestArea, unitOf, latestCommitment, latestObligation, acceptedHours, factsOfList}
+use Rattle.promise.specs.Reckoning.{numberFor, acceptedWith, reckonedDue, reckonedPaid, reckonedLine, lineFor, answerFor}
 use Rattle.promise.specs.Promise.{Entry, numberOf, lineOf, isPost}
 use Rattle.promise.specs.Laws.{answered}
 use Rattle.promise.proofs.AcceptedLists.{named-place}
@@ -94,34 +94,34 @@ module _ (b : Book) (acc : List Record) (m : Meets b acc) (s : List ℕ) where
       ∙ rw (named-place 8 (a + 1) a fits (eq-eqb (a + 1) (a + 1) refl), agreed-facts b acc (m .agrees), m .agrees .posted a p (omega (arith, within-to 1 8 (a + 1) fits)) h))
 
   -- what is paid grows by the lines of the accepted Posts of the area
-  pub paid-more : (a p : ℕ) → p < 16 → reckonedPaid (reckon acc s .accepted) a p ≡ reckonedPaid acc a p +ℤ cond (isPost a entry) (lineOf entry p) (pos 0)
+  pub paid-more : (a p : ℕ) → p < 16 → reckonedPaid (acceptedWith acc s) a p ≡ reckonedPaid acc a p +ℤ cond (isPost a entry) (lineOf entry p) (pos 0)
   paid-more a p h = go (isPost a entry) refl
     where
-      go : (t : Bool) → isPost a entry ≡ t → reckonedPaid (reckon acc s .accepted) a p ≡ reckonedPaid acc a p +ℤ cond t (lineOf entry p) (pos 0)
+      go : (t : Bool) → isPost a entry ≡ t → reckonedPaid (acceptedWith acc s) a p ≡ reckonedPaid acc a p +ℤ cond t (lineOf entry p) (pos 0)
       go true q =
           let post = posted-by a q in
           rw (list-after acc s (post .number), post .is-a-post, line-met a p h post) (lines-add-up acc a p)
       go false q = rw (+ℤ-idr (reckonedPaid acc a p)) (other (eqb (numberFor acc s) 0) refl (rw (number-met b acc m s) at q))
         where
           other : (u : Bool) → eqb (numberFor acc s) 0 ≡ u → (u && ofPost false (λ n. eqb n (a + 1)) (decoded s)) ≡ false
-              → reckonedPaid (reckon acc s .accepted) a p ≡ reckonedPaid acc a p
+              → reckonedPaid (acceptedWith acc s) a p ≡ reckonedPaid acc a p
           other true z x = rw (list-after acc s (eqb-true (numberFor acc s) 0 z)) (other-paid acc a p (decoded s) x)
           other false z x = rw (list-kept acc s z)
 
   -- a Post changes no fact, so that right after it what is paid is the due
-  pub paid-due : (a p : ℕ) → Posted a → reckonedPaid (reckon acc s .accepted) a p ≡ reckonedDue (reckon acc s .accepted) a p
-  unfolding reckonedPaid reckonedDue factsOfList yearOf latestArea unitOf latestCommitment latestObligation hoursOf
+  pub paid-due : (a p : ℕ) → Posted a → reckonedPaid (acceptedWith acc s) a p ≡ reckonedDue (acceptedWith acc s) a p
+  unfolding reckonedPaid reckonedDue factsOfList yearOf latestArea unitOf latestCommitment latestObligation acceptedHours
   paid-due a p q = rw (list-after acc s (q .number), q .is-a-post, eq-eqb (a + 1) (a + 1) refl)
 
   -- its lines add up to 0: what is paid did before, and does after it
   pub lines-balance : (a : ℕ) → isPost a entry ≡ true → sumBelowℤ 16 (lineOf entry) ≡ pos 0
   lines-balance a q =
       let paid : ℕ → ℤ = reckonedPaid acc a in
-      let grown : (p : ℕ) → p < 16 → reckonedPaid (reckon acc s .accepted) a p ≡ paid p +ℤ lineOf entry p = λ p h. rw q at (paid-more a p h) in
+      let grown : (p : ℕ) → p < 16 → reckonedPaid (acceptedWith acc s) a p ≡ paid p +ℤ lineOf entry p = λ p h. rw q at (paid-more a p h) in
       sym (+ℤ-idl (sumBelowℤ 16 (lineOf entry)))
       ∙ ap (λ (z : ℤ). z +ℤ sumBelowℤ 16 (lineOf entry)) (sym (m .kept .balance a))
       ∙ sym (sum-plusℤ 16 paid (lineOf entry))
-      ∙ sym (sum-sameℤ 16 (reckonedPaid (reckon acc s .accepted) a) (λ p. paid p +ℤ lineOf entry p) grown)
+      ∙ sym (sum-sameℤ 16 (reckonedPaid (acceptedWith acc s) a) (λ p. paid p +ℤ lineOf entry p) grown)
       ∙ meets-next b acc m s .kept .balance a
 
   no-line : (p : ℕ) → p < 16 → centsOf noLines p ≡ pos 0

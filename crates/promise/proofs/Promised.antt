@@ -10,7 +10,7 @@ use Rattle.records.specs.declared.format.Record.{Record}
 use Rattle.book.specs.declared.Book.{Book}
 use Rattle.book.specs.Books.{emptyBook}
 use Rattle.book.specs.Entered.{entered}
-use Rattle.promise.specs.Reckoning.{Answered, reckon, reckonedDue, reckonedPaid, answersOf, acceptedOf}
+use Rattle.promise.specs.Reckoning.{Answered, acceptedWith, reckonedDue, reckonedPaid, answersOf, acceptedOf}
 use Rattle.promise.specs.Standing.{SameStanding}
 use Rattle.promise.specs.Promise.{Entry, run, fromEmpty, numberOf, lineOf, isPost, endsInPost, total, Promise}
 use Rattle.promise.specs.Laws.{answered, SameAnswers}
@@ -25,7 +25,7 @@ same-numbers : (b : Book) (acc : List Record) → Meets b acc → (ss : List (Li
 unfolding run answersOf
 same-numbers b acc m [] = refl
 same-numbers b acc m (s ∷ ss) =
-    rw (number-met b acc m s, same-numbers (entered b s .book) (reckon acc s .accepted) (meets-next b acc m s) ss)
+    rw (number-met b acc m s, same-numbers (entered b s .book) (acceptedWith acc s) (meets-next b acc m s) ss)
 
 -- the lines so far and those of the strings to come are what is paid in the end
 total-paid : (b : Book) (acc : List Record) → Meets b acc → (ss : List (List ℕ)) (a p : ℕ) → p < 16
@@ -34,7 +34,7 @@ unfolding run total acceptedOf
 total-paid b acc m [] a p h = +ℤ-idr (reckonedPaid acc a p)
 total-paid b acc m (s ∷ ss) a p h =
     sym (+ℤ-assoc (reckonedPaid acc a p) (cond (isPost a (entry b acc m s)) (lineOf (entry b acc m s) p) (pos 0)) (total a p (run (entered b s .book) ss)))
-    ∙ rw (sym (paid-more b acc m s a p h)) (total-paid (entered b s .book) (reckon acc s .accepted) (meets-next b acc m s) ss a p h)
+    ∙ rw (sym (paid-more b acc m s a p h)) (total-paid (entered b s .book) (acceptedWith acc s) (meets-next b acc m s) ss a p h)
 
 -- at an accepted Post of the area that is the due
 ended-due : (b : Book) (acc : List Record) → Meets b acc → (ss : List (List ℕ)) (a p : ℕ) → endsInPost a (run b ss) ≡ true
@@ -42,7 +42,7 @@ ended-due : (b : Book) (acc : List Record) → Meets b acc → (ss : List (List 
 unfolding run endsInPost acceptedOf
 ended-due b acc m [] a p q = absurd (true≢false (sym q))
 ended-due b acc m (s ∷ []) a p q = paid-due b acc m s a p (posted-by b acc m s a q)
-ended-due b acc m (s ∷ t ∷ ss) a p q = ended-due (entered b s .book) (reckon acc s .accepted) (meets-next b acc m s) (t ∷ ss) a p q
+ended-due b acc m (s ∷ t ∷ ss) a p q = ended-due (entered b s .book) (acceptedWith acc s) (meets-next b acc m s) (t ∷ ss) a p q
 
 -- totals
 totals-due : (ss : List (List ℕ)) (a p : ℕ) → p < 16 → endsInPost a (fromEmpty ss) ≡ true
@@ -56,7 +56,7 @@ each-balanced : (b : Book) (acc : List Record) → Meets b acc → (ss : List (L
     → sumBelowℤ 16 (lineOf e) ≡ pos 0
 unfolding run
 each-balanced b acc m [] a e i q = absurd (List·Memᴰ·not-nil i)
-each-balanced b acc m (s ∷ ss) a e i q = go (List·Memᴰ·cases-cons i) (λ j. each-balanced (entered b s .book) (reckon acc s .accepted) (meets-next b acc m s) ss a e j q)
+each-balanced b acc m (s ∷ ss) a e i q = go (List·Memᴰ·cases-cons i) (λ j. each-balanced (entered b s .book) (acceptedWith acc s) (meets-next b acc m s) ss a e j q)
   where
     go : (e ≡ record { string = s; answer = entered b s }) ⊎ List·Memᴰ e (run (entered b s .book) ss) → (List·Memᴰ e (run (entered b s .book) ss) → sumBelowℤ 16 (lineOf e) ≡ pos 0)
         → sumBelowℤ 16 (lineOf e) ≡ pos 0
@@ -84,7 +84,7 @@ answers-met : (b : Book) (acc : List Record) → Meets b acc → (ss : List (Lis
 unfolding run answersOf
 answers-met b acc m [] = refl
 answers-met b acc m (s ∷ ss) =
-    rw (answer-met b acc m s, answers-met (entered b s .book) (reckon acc s .accepted) (meets-next b acc m s) ss)
+    rw (answer-met b acc m s, answers-met (entered b s .book) (acceptedWith acc s) (meets-next b acc m s) ss)
 
 pub same-answers : SameAnswers
 same-answers = answers-met emptyBook [] meets-none

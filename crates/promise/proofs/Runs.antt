@@ -12,7 +12,7 @@ use Rattle.records.specs.Kinds.{ofPost}
 use Rattle.records.specs.Refusal.{refusalOf}
 use Rattle.records.specs.Facts.{Facts}
 use Rattle.records.specs.Rules.{asked, refusal}
-use Rattle.promise.specs.Reckoning.{factsOfList, Answered, numberFor, reckon, reckonedLine, lineFor, answersOf}
+use Rattle.promise.specs.Reckoning.{factsOfList, Answered, numberFor, acceptedWith, reckonedLine, lineFor, answersOf}
 use Rattle.promise.specs.Figures.{answer, noLines}
 
 number-of : (F : Facts) (s : List ℕ) (r : Record) (n : ℕ) → decoded s ≡ r → refusalOf (asked F r) r ≡ n → refusal F s ≡ n
@@ -21,12 +21,12 @@ number-of F s r n d e = rw d e
 
 module _ (acc : List Record) (s : List ℕ) where
   -- the list after an accepted string, and after a refused one
-  pub list-after : numberFor acc s ≡ 0 → reckon acc s .accepted ≡ decoded s ∷ acc
-  unfolding reckon
+  pub list-after : numberFor acc s ≡ 0 → acceptedWith acc s ≡ decoded s ∷ acc
+  unfolding acceptedWith
   list-after e = rw e
 
-  pub list-kept : eqb (numberFor acc s) 0 ≡ false → reckon acc s .accepted ≡ acc
-  unfolding reckon
+  pub list-kept : eqb (numberFor acc s) 0 ≡ false → acceptedWith acc s ≡ acc
+  unfolding acceptedWith
   list-kept q = rw q
 
 pub none-next : (acc : List Record) → answersOf acc [] ≡ []

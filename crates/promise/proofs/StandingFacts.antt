@@ -6,7 +6,7 @@ use Rattle.records.specs.declared.format.Record.{Record}
 use Rattle.records.specs.Hours.{serviceHour, outageHour, deratedWatts}
 use Rattle.records.specs.Facts.{Facts}
 use Rattle.records.specs.Dues.{dueIn}
-use Rattle.promise.specs.Reckoning.{yearOf, hoursOf, sumOver, lastIndex, factsOfList, reckonedDue}
+use Rattle.promise.specs.Reckoning.{yearOf, acceptedHours, sumOver, lastIndex, factsOfList, reckonedDue}
 use Rattle.promise.specs.Standing.{SameStanding}
 use Rattle.promise.proofs.Falling.{same-hours}
 use Rattle.promise.proofs.AcceptedLists.{Kept}
@@ -15,7 +15,7 @@ use Rattle.promise.proofs.AcceptedLists.{Kept}
 standing-facts : (rs qs : List Record) → Kept rs → Kept qs → SameStanding rs qs → factsOfList rs ≡ factsOfList qs
 unfolding factsOfList
 standing-facts rs qs k l same =
-    let hours : (u : ℕ) → hoursOf rs u ≡ hoursOf qs u = λ u. same-hours (yearOf rs) (hoursOf rs u) (hoursOf qs u) (k .falling u) (rw (same .year) (l .falling u)) (same .hours u) in
+    let hours : (u : ℕ) → acceptedHours rs u ≡ acceptedHours qs u = λ u. same-hours (yearOf rs) (acceptedHours rs u) (acceptedHours qs u) (k .falling u) (rw (same .year) (l .falling u)) (same .hours u) in
     λ i. record {
       year = same .year i;
       area = λ j. same .areas j i;

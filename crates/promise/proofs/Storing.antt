@@ -22,7 +22,7 @@ use Rattle.book.specs.declared.Answer.{Answer}
 use Rattle.book.specs.Books.{emptyBook, Sound}
 use Rattle.book.specs.Entered.{entered, bookAfter}
 use Rattle.promise.specs.Promise.{run, fromEmpty}
-use Rattle.promise.specs.Logs.{stringsFrom, strings, storedFrom, stored, numbersOf, linesOf}
+use Rattle.promise.specs.Logs.{stringsFrom, strings, storedFrom, stored, allNumbers, allLines}
 
 -- the amounts of a string's lines
 abbrev pub amountsOf : List Cents → List ℤ
@@ -77,6 +77,19 @@ module _ {A : Type 0} where
   stored-append k l (x ∷ xs) ys =
       stored-append (suc k) (set l k x) xs ys ∙ ap (λ (n : ℕ). storedFrom n (storedFrom (suc k) (set l k x) xs) ys) (omega arith)
 
+  -- a list's first element is left alone from its second place on
+  stored-tail : (x : A) (k : ℕ) (l vs : List A) → storedFrom (suc k) (x ∷ l) vs ≡ x ∷ storedFrom k l vs
+  unfolding storedFrom
+  stored-tail x k l [] = refl
+  stored-tail x k l (v ∷ vs) = stored-tail x (suc k) (set l k v) vs
+
+  -- value by value from the start is all at once
+  stored-whole : (l vs : List A) → storedFrom 0 l vs ≡ stored l vs
+  unfolding storedFrom
+  stored-whole [] vs = stored-past 0 [] vs (omega arith) ∙ sym (drop-of-length-le [] {i = length vs} (omega arith))
+  stored-whole (x ∷ l) [] = refl
+  stored-whole (x ∷ l) (v ∷ vs) = stored-tail v 0 l vs ∙ ap (λ (t : List A). v ∷ t) (stored-whole l vs)
+
   -- one value of a list more is stored, and no more are left
   stored-more : (l vs : List A) (k p : ℕ) (d : A) {v : A} → p < length vs → v ≡ getD vs p d
       → storedFrom (k + 1) (set l k v) (drop (p + 1) vs) ≡ storedFrom k l (drop p vs)
@@ -113,20 +126,20 @@ module _ (b : Book) (s : List ℕ) (ss : List (List ℕ)) {a : Answer} (e : a �
   book-more : bookAfter (a .book) ss ≡ bookAfter b (s ∷ ss)
   book-more = rw e
 
-  numbers-more : (l : List ℕ) (k : ℕ) → storedFrom (k + 1) (set l k (a .number)) (numbersOf (run (a .book) ss)) ≡ storedFrom k l (numbersOf (run b (s ∷ ss)))
+  numbers-more : (l : List ℕ) (k : ℕ) → storedFrom (k + 1) (set l k (a .number)) (allNumbers (run (a .book) ss)) ≡ storedFrom k l (allNumbers (run b (s ∷ ss)))
   unfolding storedFrom run
   numbers-more l k = rw (e, add-one k)
 
   lines-next : (l : List ℤ) (k : ℕ)
-      → storedFrom (min (k + length (a .lines)) (length l)) (storedFrom k l (amountsOf (a .lines))) (linesOf (run (a .book) ss))
-      ≡ storedFrom k l (linesOf (run b (s ∷ ss)))
+      → storedFrom (min (k + length (a .lines)) (length l)) (storedFrom k l (amountsOf (a .lines))) (allLines (run (a .book) ss))
+      ≡ storedFrom k l (allLines (run b (s ∷ ss)))
   unfolding run flatMap
   lines-next l k =
       let amounts = amountsOf (a .lines) in
       let put = storedFrom k l amounts in
-      let more = linesOf (run (a .book) ss) in
+      let more = allLines (run (a .book) ss) in
       let place : min (k + length (a .lines)) (length l) ≡ min (k + length amounts) (length put) = rw (length-map, stored-length k l amounts) in
-      let all : storedFrom k l (amounts ++ more) ≡ storedFrom k l (linesOf (run b (s ∷ ss))) = rw e in
+      let all : storedFrom k l (amounts ++ more) ≡ storedFrom k l (allLines (run b (s ∷ ss))) = rw e in
       rw place (stored-within (k + length amounts) put more ∙ sym (stored-append k l amounts more) ∙ all)
 
 -- The loop of `run`: after i strings, what is left to do is what was to do at first.
@@ -137,10 +150,10 @@ pub record Going (bytes ends firstNumbers : List ℕ) (firstLines : List ℤ) (n
   pub lines-length : length lines ≡ length firstLines
   pub sound : Sound b
   pub book-left : bookAfter b (stringsFrom from bytes (drop i ends)) ≡ bookAfter emptyBook (strings bytes ends)
-  pub numbers-left : storedFrom i numbers (numbersOf (run b (stringsFrom from bytes (drop i ends))))
-      ≡ stored firstNumbers (numbersOf (fromEmpty (strings bytes ends)))
-  pub lines-left : storedFrom next lines (linesOf (run b (stringsFrom from bytes (drop i ends))))
-      ≡ stored firstLines (linesOf (fromEmpty (strings bytes ends)))
+  pub numbers-left : storedFrom i numbers (allNumbers (run b (stringsFrom from bytes (drop i ends))))
+      ≡ storedFrom 0 firstNumbers (allNumbers (fromEmpty (strings bytes ends)))
+  pub lines-left : storedFrom next lines (allLines (run b (stringsFrom from bytes (drop i ends))))
+      ≡ storedFrom 0 firstLines (allLines (fromEmpty (strings bytes ends)))
 
 module _ (bytes ends numbers : List ℕ) (lines : List ℤ) where
   pub going-first : {b : Book} → b ≡ emptyBook → Sound b → Going bytes ends numbers lines numbers lines b 0 0 0
@@ -174,9 +187,9 @@ module _ {bytes ends firstNumbers numbers : List ℕ} {firstLines lines : List �
         sound = sound;
         book-left = book-more b s ss answer ∙ ap (bookAfter b) rest ∙ g .book-left;
         numbers-left =
-            rw n (numbers-more b s ss answer numbers i ∙ ap (λ (x : List (List ℕ)). storedFrom i numbers (numbersOf (run b x))) rest ∙ g .numbers-left);
+            rw n (numbers-more b s ss answer numbers i ∙ ap (λ (x : List (List ℕ)). storedFrom i numbers (allNumbers (run b x))) rest ∙ g .numbers-left);
         lines-left =
-            rw (l, k) (lines-next b s ss answer lines next ∙ ap (λ (x : List (List ℕ)). storedFrom next lines (linesOf (run b x))) rest ∙ g .lines-left);
+            rw (l, k) (lines-next b s ss answer lines next ∙ ap (λ (x : List (List ℕ)). storedFrom next lines (allLines (run b x))) rest ∙ g .lines-left);
       }
 
   -- no string is left
@@ -188,10 +201,10 @@ module _ {bytes ends firstNumbers numbers : List ℕ} {firstLines lines : List �
     pub going-book : b ≡ bookAfter emptyBook (strings bytes ends)
     going-book = ap (bookAfter b) (sym none) ∙ g .book-left
 
-    pub going-numbers : numbers ≡ stored firstNumbers (numbersOf (fromEmpty (strings bytes ends)))
+    pub going-numbers : numbers ≡ stored firstNumbers (allNumbers (fromEmpty (strings bytes ends)))
     unfolding storedFrom run
-    going-numbers = ap (λ (x : List (List ℕ)). storedFrom i numbers (numbersOf (run b x))) (sym none) ∙ g .numbers-left
+    going-numbers = ap (λ (x : List (List ℕ)). storedFrom i numbers (allNumbers (run b x))) (sym none) ∙ g .numbers-left ∙ stored-whole firstNumbers _
 
-    pub going-lines : lines ≡ stored firstLines (linesOf (fromEmpty (strings bytes ends)))
+    pub going-lines : lines ≡ stored firstLines (allLines (fromEmpty (strings bytes ends)))
     unfolding storedFrom run flatMap
-    going-lines = ap (λ (x : List (List ℕ)). storedFrom next lines (linesOf (run b x))) (sym none) ∙ g .lines-left
+    going-lines = ap (λ (x : List (List ℕ)). storedFrom next lines (allLines (run b x))) (sym none) ∙ g .lines-left ∙ stored-whole firstLines _

@@ -65,8 +65,8 @@ firstLines =
     ∷ pos 0 ∷ pos 0 ∷ pos 0 ∷ pos 0 ∷ pos 0 ∷ pos 0 ∷ pos 0 ∷ pos 0 ∷ []
 
 -- 01, The ledger program: the example's input up to its Loads
-abbrev pub entered : List (List ℕ)
-entered =
+abbrev pub beforeLoads : List (List ℕ)
+beforeLoads =
     year 2010
     ∷ area 1 9000
     ∷ unit 1 1 4500000 30000 5000 15000 0
@@ -76,17 +76,17 @@ entered =
     ∷ []
 
 -- the answers to these: all accepted
-abbrev pub enteredAnswers : List Answered
-enteredAnswers = answer 0 noLines ∷ answer 0 noLines ∷ answer 0 noLines ∷ answer 0 noLines ∷ answer 0 noLines ∷ answer 0 noLines ∷ []
+abbrev pub beforeLoadsAnswers : List Answered
+beforeLoadsAnswers = answer 0 noLines ∷ answer 0 noLines ∷ answer 0 noLines ∷ answer 0 noLines ∷ answer 0 noLines ∷ answer 0 noLines ∷ []
 
 abbrev pub reckonedRows : List Figure
 reckonedRows =
     -- j. The lines above;
     reckoned
-    (entered ++ (load 1 5 500000 ∷ load 1 7 600000 ∷ post 1 ∷ post 1 ∷ post 2 ∷ []))
-    (enteredAnswers ++ (answer 0 noLines ∷ answer 0 noLines ∷ answer 0 firstLines ∷ answer 0 noLines ∷ answer 7 noLines ∷ []))
+    (beforeLoads ++ (load 1 5 500000 ∷ load 1 7 600000 ∷ post 1 ∷ post 1 ∷ post 2 ∷ []))
+    (beforeLoadsAnswers ++ (answer 0 noLines ∷ answer 0 noLines ∷ answer 0 firstLines ∷ answer 0 noLines ∷ answer 7 noLines ∷ []))
     -- the same without Loads: post refused with 11
-    ∷ reckoned (entered ++ (post 1 ∷ [])) (enteredAnswers ++ (answer 11 noLines ∷ []))
+    ∷ reckoned (beforeLoads ++ (post 1 ∷ post 1 ∷ post 2 ∷ [])) (beforeLoadsAnswers ++ (answer 11 noLines ∷ answer 11 noLines ∷ answer 7 noLines ∷ []))
     ∷ []
 
 abbrev pub figures : List Figure

@@ -1,5 +1,6 @@
--- A log: strings end to end in one slice, and in another the place where each of them ends.
-use mathlib.Core.List.{List, [], _∷_, map, flatMap}
+-- A log: strings end to end in one slice, and in another the place where each of them ends. Bytes past the last end belong to
+-- no string.
+use mathlib.Core.List.{List, [], _∷_, _++_, map, flatMap}
 use Prim.Native.Nat.{ℕ, suc, _+_, _-_}
 use lib.IntN.{ℤ}
 use lib.ListN.{length, take, drop, set}
@@ -19,17 +20,18 @@ unfoldable pub endsFrom : ℕ → List (List ℕ) → List ℕ
 endsFrom from [] = []
 endsFrom from (s ∷ ss) = (from + length s) ∷ endsFrom (from + length s) ss
 
--- values stored one after another from a place on; past the end of the list nothing is stored
+-- a list with these values at its start, as far as there is room, and further on as it was
+abbrev pub stored : {A : Type 0} → List A → List A → List A
+stored l vs = take (length l) vs ++ drop (length vs) l
+
+-- the same from a place on, value by value, for the private functions of a log
 unfoldable pub storedFrom : {A : Type 0} → ℕ → List A → List A → List A
 storedFrom k l [] = l
 storedFrom k l (v ∷ vs) = storedFrom (suc k) (set l k v) vs
 
-abbrev pub stored : {A : Type 0} → List A → List A → List A
-stored l vs = storedFrom 0 l vs
-
 -- the numbers of a run, and its lines, sixteen for each string
-abbrev pub numbersOf : List Entry → List ℕ
-numbersOf es = map numberOf es
+abbrev pub allNumbers : List Entry → List ℕ
+allNumbers es = map numberOf es
 
-abbrev pub linesOf : List Entry → List ℤ
-linesOf es = flatMap (λ (e : Entry). map (λ (c : Cents). c .0) (e .answer .lines)) es
+abbrev pub allLines : List Entry → List ℤ
+allLines es = flatMap (λ (e : Entry). map (λ (c : Cents). c .0) (e .answer .lines)) es

@@ -1,6 +1,6 @@
 -- The fresh reckoning. 01, Area money, "Fresh reckoning (demand 3)". It reads the strings and its own list of accepted
 -- records, and nothing of any book. The list is newest first: the paper's end of the list is its head here.
--- Area, unit, commitment and party number k of 01 is k − 1 here, as in records' Facts.
+-- As an argument, area, unit, commitment and party number k of 01 is k − 1 here, as in records' Facts.
 use mathlib.Core.Bool.{cond, _&&_}
 use mathlib.Core.List.{List, [], _∷_}
 use Prim.Native.Nat.{ℕ, _+_, _-_}
@@ -49,11 +49,12 @@ latestObligation (r ∷ rs) a p =
     r
 
 -- 01, Records, "Standing facts": the accepted Hour records of a unit
-unfoldable pub hoursOf : List Record → ℕ → List HourRecord
-hoursOf [] u = []
-hoursOf (r ∷ rs) u = ofHour (hoursOf rs u) (λ h. cond (eqb (h .unit) (u + 1)) (h ∷ hoursOf rs u) (hoursOf rs u)) r
+unfoldable pub acceptedHours : List Record → ℕ → List HourRecord
+acceptedHours [] u = []
+acceptedHours (r ∷ rs) u = ofHour (acceptedHours rs u) (λ h. cond (eqb (h .unit) (u + 1)) (h ∷ acceptedHours rs u) (acceptedHours rs u)) r
 
--- 01, Fresh reckoning: counts and a sum over a unit's Hour records in the list; 0 where there are none
+-- 01, Fresh reckoning: counts and a sum over a unit's Hour records in the list, of which f is 0 at those that are not peak; 0
+-- where there are none
 unfoldable pub sumOver : (HourRecord → ℕ) → List HourRecord → ℕ
 sumOver f [] = 0
 sumOver f (h ∷ hs) = sumOver f hs + f h
@@ -71,24 +72,19 @@ factsOfList acc = record {
   unit = unitOf acc;
   commitment = latestCommitment acc;
   obligation = latestObligation acc;
-  sh = λ u. sumOver (serviceHour (yearOf acc)) (hoursOf acc u);
-  foh = λ u. sumOver (outageHour (yearOf acc)) (hoursOf acc u);
-  d = λ u. sumOver (deratedWatts (yearOf acc)) (hoursOf acc u);
-  last = λ u. lastIndex (yearOf acc) (hoursOf acc u);
+  sh = λ u. sumOver (serviceHour (yearOf acc)) (acceptedHours acc u);
+  foh = λ u. sumOver (outageHour (yearOf acc)) (acceptedHours acc u);
+  d = λ u. sumOver (deratedWatts (yearOf acc)) (acceptedHours acc u);
+  last = λ u. lastIndex (yearOf acc) (acceptedHours acc u);
 }
-
--- what one string makes of the list: its number, and the list after it
-pub record Reckoned : Type 0 where
-  pub number : ℕ
-  pub accepted : List Record
 
 -- 01, Fresh reckoning: each string is tried against the rows of refusal, and all that they ask beyond it is read from the list
 abbrev pub numberFor : List Record → List ℕ → ℕ
 numberFor acc s = refusal (factsOfList acc) s
 
 -- 01, Fresh reckoning: if a row fits, the list stays as it is; if none fits, the record joins it
-unfoldable pub reckon : List Record → List ℕ → Reckoned
-reckon acc s = record { number = numberFor acc s; accepted = cond (eqb (numberFor acc s) 0) (decoded s ∷ acc) acc }
+unfoldable pub acceptedWith : List Record → List ℕ → List Record
+acceptedWith acc s = cond (eqb (numberFor acc s) 0) (decoded s ∷ acc) acc
 
 -- 01, Fresh reckoning: a party's due in an area is what the rules give from the standing facts and SH, FOH and D
 unfoldable pub reckonedDue : List Record → ℕ → ℕ → ℤ
@@ -120,9 +116,9 @@ answerFor acc s = record { number = numberFor acc s; lines = listBelow 16 (lineF
 -- 01, Fresh reckoning: it is fed the same strings of bytes as the book, in the same order: the answers, from a list on
 unfoldable pub answersOf : List Record → List (List ℕ) → List Answered
 answersOf acc [] = []
-answersOf acc (s ∷ ss) = answerFor acc s ∷ answersOf (reckon acc s .accepted) ss
+answersOf acc (s ∷ ss) = answerFor acc s ∷ answersOf (acceptedWith acc s) ss
 
 -- the list after these strings
 unfoldable pub acceptedOf : List Record → List (List ℕ) → List Record
 acceptedOf acc [] = acc
-acceptedOf acc (s ∷ ss) = acceptedOf (reckon acc s .accepted) ss
+acceptedOf acc (s ∷ ss) = acceptedOf (acceptedWith acc s) ss

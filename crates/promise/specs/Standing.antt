@@ -6,7 +6,7 @@ use mathlib.Core.List.{List, List·Memᴰ}
 use Prim.Native.Nat.{ℕ}
 use Rattle.records.specs.declared.format.HourRecord.{HourRecord}
 use Rattle.records.specs.declared.format.Record.{Record}
-use Rattle.promise.specs.Reckoning.{yearOf, latestArea, unitOf, latestCommitment, latestObligation, hoursOf}
+use Rattle.promise.specs.Reckoning.{yearOf, latestArea, unitOf, latestCommitment, latestObligation, acceptedHours}
 
 -- two lists that leave the same standing facts
 pub record SameStanding (rs qs : List Record) : Type 0 where
@@ -17,4 +17,4 @@ pub record SameStanding (rs qs : List Record) : Type 0 where
   -- a Load is its key and an obligation
   pub obligations : (a p : ℕ) → latestObligation rs a p ≡ latestObligation qs a p
   -- an Hour record is among the unit's in the one list if and only if it is in the other
-  pub hours : (u : ℕ) (h : HourRecord) → List·Memᴰ h (hoursOf rs u) ↔ List·Memᴰ h (hoursOf qs u)
+  pub hours : (u : ℕ) (h : HourRecord) → List·Memᴰ h (acceptedHours rs u) ↔ List·Memᴰ h (acceptedHours qs u)

@@ -9,7 +9,7 @@ ghost use lib.ListN.{length, take, drop, set};
 ghost use Rattle.book.specs.Books.{emptyBook, Sound};
 ghost use Rattle.book.specs.Entered.{bookAfter};
 ghost use Rattle.promise.specs.Promise.{fromEmpty};
-ghost use Rattle.promise.specs.Logs.{strings, storedFrom, stored, numbersOf, linesOf};
+ghost use Rattle.promise.specs.Logs.{strings, storedFrom, stored, allNumbers, allLines};
 
 // The string between two places of the bytes.
 fn between(bytes: &[u8], from: usize, end: usize) -> &[u8]
@@ -56,8 +56,8 @@ fn put_lines(lines: &mut [i64], at: usize, amounts: [Cents; 16]) -> usize
 // numbers, and their lines, sixteen for each string, are stored as far as there is room; the answer is the book after them.
 pub fn run(bytes: &[u8], ends: &[usize], numbers: &mut [u32], lines: &mut [i64]) -> Book
     ensures { λ r. ⌜ (r ≡ bookAfter emptyBook (strings (now (bytes .entry)) (now (ends .entry)))) × Sound r ⌝ }
-    ensures { λ _. ⌜ now (numbers .exit) ≡ stored (now (numbers .entry)) (numbersOf (fromEmpty (strings (now (bytes .entry)) (now (ends .entry))))) ⌝ }
-    ensures { λ _. ⌜ now (lines .exit) ≡ stored (now (lines .entry)) (linesOf (fromEmpty (strings (now (bytes .entry)) (now (ends .entry))))) ⌝ }
+    ensures { λ _. ⌜ now (numbers .exit) ≡ stored (now (numbers .entry)) (allNumbers (fromEmpty (strings (now (bytes .entry)) (now (ends .entry))))) ⌝ }
+    ensures { λ _. ⌜ now (lines .exit) ≡ stored (now (lines .entry)) (allLines (fromEmpty (strings (now (bytes .entry)) (now (ends .entry))))) ⌝ }
 {
     let mut book = Book::new();
     let mut from = 0;
