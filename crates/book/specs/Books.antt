@@ -25,7 +25,7 @@ noEntry = record { entry = noUnit; sh = 0; foh = 0; d = 0; last = 0 }
 abbrev pub areaParty : ℕ → ℕ → ℕ
 areaParty a p = a * 16 + p
 
--- party p's obligation in area a
+-- party p's obligation in area a; past the sixteenth party the place would be the next area's
 abbrev pub obligationIn : List ℕ → ℕ → ℕ → ℕ
 obligationIn l a p = cond (ltb p 16) (getD l (areaParty a p) 0) 0
 

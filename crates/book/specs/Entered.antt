@@ -1,4 +1,4 @@
--- What a string is answered with, and the book after it. 01, Places of refusal, Hours and Area money.
+-- What a string is answered with, and the book after it. 01, Records, Places of refusal, Hours and Area money.
 use mathlib.Core.Bool.{cond}
 use mathlib.Core.List.{List, [], _∷_}
 use Prim.Native.Nat.{ℕ, _+_, _/_, _%_}
@@ -108,7 +108,7 @@ postedAfter b a = listBelow 128 (λ k. cond (eqb (k / 16) a) (cents (dueIn (fact
 abbrev pub afterPost : Book → ℕ → Book
 afterPost b a = withPosted b (postedAfter b a)
 
--- the book after an accepted record
+-- the book after an accepted record; rows 1 to 3 accept nothing that is Unframed
 abbrev pub after : Book → Record → Book
 after b (Unframed f) = b
 after b (Year y) = withYear b y
@@ -140,7 +140,7 @@ unfoldable pub entered : Book → List ℕ → Answer
 entered b s =
     cond (eqb (refusal (factsOfBook b) s) 0) (answer 0 (linesOf b (decoded s)) (after b (decoded s))) (answer (refusal (factsOfBook b) s) noLines b)
 
--- the book after a list of strings, each entered in turn
+-- the book after a list of strings, each entered in turn: that of the last answer
 abbrev pub bookAfter : Book → List (List ℕ) → Book
 bookAfter b [] = b
 bookAfter b (s ∷ ss) = bookAfter (entered b s .book) ss

@@ -22,6 +22,6 @@ isDeliveryDate y m d = isDate (calendarYear y m) m d
 unfoldable pub deliveryDay : ℕ → ℕ → ℕ → ℕ
 deliveryDay y m d = cond (isDeliveryDate y m d) (dayNumber (calendarYear y m) m d - dayNumber y 6 1) 0
 
--- day d of month m is a date of delivery year y, and its hour ending h is peak
+-- 01, Hours: day d of month m is a date of delivery year y, and its hour ending h is peak
 unfoldable pub isDeliveryPeak : ℕ → ℕ → ℕ → ℕ → Bool
 isDeliveryPeak y m d h = isDeliveryDate y m d && peakHour (calendarYear y m) m d h

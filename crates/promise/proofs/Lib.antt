@@ -7,6 +7,7 @@ pub mod Meeting
 pub mod Posts
 pub mod StandingFacts
 pub mod Promised
+pub mod WattDays
 pub mod Storing
 pub mod WholeLogs
 pub mod Example

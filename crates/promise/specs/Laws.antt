@@ -1,11 +1,14 @@
--- What the reckoning's definitions give, for all lists, what it has in common with the book, and that a log is any list.
+-- What the reckoning's definitions give, for all lists, what it has in common with the book, and that any list of strings is
+-- that of a log.
 use mathlib.Core.Path.{_≡_}
 use mathlib.Core.List.{List, [], _∷_, map, flatten}
 use Prim.Native.Nat.{ℕ, _+_}
 use lib.IntN.{_+ℤ_}
 use Rattle.records.specs.declared.format.Record.{Record}
 use Rattle.records.specs.declared.format.Record.the-variants.{Post}
+use Rattle.records.specs.Dues.{wattDaysFor, partFor}
 use Rattle.settlement.specs.Lists.{listBelow}
+use Rattle.settlement.specs.Capacity.{unitWattDays, wattDaysOf}
 use Rattle.book.specs.Books.{factsOfBook, emptyBook}
 use Rattle.book.specs.Entered.{bookAfter}
 use Rattle.promise.specs.Reckoning.{Answered, factsOfList, reckonedPaid, reckonedLine, answersOf, acceptedOf}
@@ -27,6 +30,12 @@ SameAnswers = (ss : List (List ℕ)) → map answered (fromEmpty ss) ≡ answers
 -- after any strings the book's facts are the reckoning's
 abbrev pub SameFacts : Type 0
 SameFacts = (ss : List (List ℕ)) → factsOfBook (bookAfter emptyBook ss) ≡ factsOfList (acceptedOf [] ss)
+
+-- V. 01, From a set to its shortfall: the sum over the unit's commitments. After any strings it is what the sixteen parties'
+-- parts add up to, from which the due is worked.
+abbrev pub PartsAddUp : Type 0
+PartsAddUp = (ss : List (List ℕ)) (u : ℕ)
+    → wattDaysOf (partFor (factsOfList (acceptedOf [] ss)) u) ≡ unitWattDays 64 (wattDaysFor (factsOfList (acceptedOf [] ss)) u)
 
 -- any list of strings is that of a log: of the strings end to end, with the place where each of them ends
 abbrev pub EveryLog : Type 0

@@ -61,7 +61,7 @@ pub record Promise : Type 0 where
   -- the sixteen lines of each accepted post add up to zero
   pub balanced : (ss : List (List ℕ)) (a : ℕ) (e : Entry) → List·Memᴰ e (fromEmpty ss) → isPost a e ≡ true → sumBelowℤ 16 (lineOf e) ≡ pos 0
   -- after each accepted post of an area, each party's total there is its due, which the reckoning works out from the records
-  -- accepted up to then
+  -- accepted up to then; each accepted post of a list ends the list of the strings up to it
   pub totals : (ss : List (List ℕ)) (a p : ℕ) → p < 16 → endsInPost a (fromEmpty ss) ≡ true
       → total a p (fromEmpty ss) ≡ reckonedDue (acceptedOf [] ss) a p
   -- for any two lists that leave the same standing facts, each ended by an accepted post of one and the same area, every party

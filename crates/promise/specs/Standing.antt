@@ -14,7 +14,7 @@ pub record SameStanding (rs qs : List Record) : Type 0 where
   pub units : (k : ℕ) → unitOf rs k ≡ unitOf qs k
   pub areas : (k : ℕ) → latestArea rs k ≡ latestArea qs k
   pub commitments : (k : ℕ) → latestCommitment rs k ≡ latestCommitment qs k
-  -- a Load is its key and an obligation
+  -- a Load is its key and an obligation; one of 0 W and none at all are the same here, which asks less of the two lists
   pub obligations : (a p : ℕ) → latestObligation rs a p ≡ latestObligation qs a p
   -- an Hour record is among the unit's in the one list if and only if it is in the other
   pub hours : (u : ℕ) (h : HourRecord) → List·Memᴰ h (acceptedHours rs u) ↔ List·Memᴰ h (acceptedHours qs u)

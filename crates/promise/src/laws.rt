@@ -1,7 +1,7 @@
-// A function with an empty body whose contract is a theorem: the gate asks for its proof by name.
+// Functions with empty bodies whose contracts are theorems: the gate asks for their proofs by name.
 ghost use Rattle.calendar.specs.Figures.{EachGiven};
 ghost use Rattle.promise.specs.Promise.{Promise};
-ghost use Rattle.promise.specs.Laws.{LinesAddUp, SameAnswers, SameFacts, EveryLog};
+ghost use Rattle.promise.specs.Laws.{LinesAddUp, SameAnswers, SameFacts, PartsAddUp, EveryLog};
 ghost use Rattle.promise.specs.Figures.{figureGiven, figures};
 
 // Figures a to j.
@@ -29,7 +29,12 @@ pub fn facts()
     ensures { λ _. ⌜ SameFacts ⌝ }
 {}
 
-// Any list of strings can be handed to `log::run`.
+// The parties' parts of a unit's V add up to V.
+pub fn parts()
+    ensures { λ _. ⌜ PartsAddUp ⌝ }
+{}
+
+// Any list of strings of bytes, as many as slices hold, can be handed to `log::run`.
 pub fn logs()
     ensures { λ _. ⌜ EveryLog ⌝ }
 {}

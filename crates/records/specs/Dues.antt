@@ -37,7 +37,7 @@ module _ (F : Facts) where
     d = F .d u;
   }
 
-  -- unit u's share for party p, in the unit's own area
+  -- unit u's share for party p, in the unit's own area; nothing in any other
   unfoldable pub shareIn : ℕ → ℕ → ℕ → ℤ
   shareIn a u p = cond (eqb (F .unit u .area) (a + 1)) (unitShare (unitFacts u) (partFor u) days p) (pos 0)
 

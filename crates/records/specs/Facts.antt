@@ -1,6 +1,6 @@
 -- What the rules ask beyond the string: the standing facts of 01, Records, and the figures of each unit's accepted hours.
--- Area, unit, commitment and party number k of 01 is k − 1 here. Where nothing is entered the record is all zeros, which no
--- accepted record is: their numbers begin with 1.
+-- As an argument, area, unit, commitment and party number k of 01 is k − 1 here; inside a record numbers are the paper's. Where
+-- nothing is entered the record is all zeros, which no accepted record is: their numbers begin with 1.
 use mathlib.Core.Bool.{Bool}
 use Prim.Native.Nat.{ℕ}
 use lib.Dec.{ltb}

@@ -83,7 +83,8 @@ secondYear a r = not (eqb (a .year) 0) && isYear r
 abbrev pub outOfRange : Asked → Record → Bool
 outOfRange a r = not (inRange (a .year) r)
 
--- row 7: not entered: the area of a Unit, Load or Post, or the unit of a Commitment or Hour
+-- row 7: not entered: the area of a Unit, Load or Post, or the unit of a Commitment or Hour. `a .area` and `a .unit` say whether
+-- the area and the unit that the record names are entered.
 abbrev pub notEntered : Asked → Record → Bool
 notEntered a (Unframed f) = false
 notEntered a (Year y) = false
@@ -112,7 +113,7 @@ unplaced a r = ofPost false (λ p. a .unplaced) r
 
 -- a row: its number where it fits, else what the rows after it give
 abbrev pub row : ℕ → Bool → ℕ → ℕ
-row number fits after = cond fits number after
+row number here after = cond here number after
 
 -- the eleven rows over what they ask; 0 where none fits
 unfoldable pub refusalOf : Asked → Record → ℕ

@@ -1,4 +1,4 @@
--- From a set to its shortfall. 01, the section of that name; 002 (c) to (g) and (i).
+-- From a set to its shortfall. 01, the section of that name; 002 (c) to (g) and (i); 001 for T.
 -- I and T are installed watts; U, X, G, P and L are unforced watts. Rates e, f and g are hundred-thousandths.
 -- All divisions are floors.
 use mathlib.Core.Bool.{Bool, cond, _&&_}
@@ -21,11 +21,12 @@ unitWattDays n wd = sumBelow n wd
 unfoldable pub partOf : ℕ → (ℕ → ℕ) → (ℕ → ℕ) → ℕ → ℕ
 partOf n wd party p = sumBelow n (λ k. cond (eqb (party k) p) (wd k) 0)
 
--- V from the sixteen parts, which is how the functions are given it; the law `parts-add-up` says that it is the same
+-- V from the sixteen parts, which is how the functions are given it; the law `parts-add-up` says that it is the same, and for
+-- every book PartsAddUp of promise's Laws does
 unfoldable pub wattDaysOf : (ℕ → ℕ) → ℕ
 wattDaysOf part = sumBelow 16 part
 
--- T = lower of I and V × 100,000 / ((100,000 − e) × days)
+-- T = lower of I and V × 100,000 / ((100,000 − e) × days): in 001 the Total Unit ICAP Commitment Amount
 unfoldable pub committed : ℕ → ℕ → ℕ → ℕ → ℕ
 committed i e v days = min i (v * 100000 / ((100000 - e) * days))
 
