@@ -100,7 +100,7 @@ module _ (acc : List Record) (k : Kept acc) where
         no-year = has-year (Commitment c) q;
         no-hours = k .no-hours;
         falling = k .falling;
-        parties = λ j. go j (eqb (c .number) (j + 1));
+        parties = λ j. go j (eqb (c .number) (j + 1)) refl;
         balance = k .balance;
       }
     where
@@ -109,9 +109,10 @@ module _ (acc : List Record) (k : Kept acc) where
           let others = both-true {a = fits commitmentUnit (c .unit)} (both-true {a = fits commitmentNumber (c .number)} fit .1) .1 in
           both-true {a = fits commitmentParty (c .party)} others .0
 
-      go : (j : ℕ) (t : Bool) → (cond t c (latestCommitment acc j) .unit ≡ 0) ⊎ (within 1 16 (cond t c (latestCommitment acc j) .party) ≡ true)
-      go j true = inr party
-      go j false = k .parties j
+      go : (j : ℕ) (t : Bool) → eqb (c .number) (j + 1) ≡ t
+          → (latestCommitment (Commitment c ∷ acc) j .unit ≡ 0) ⊎ (within 1 16 (latestCommitment (Commitment c ∷ acc) j .party) ≡ true)
+      go j true q = rw q (inr party)
+      go j false q = rw q (k .parties j)
 
   -- rows 7 and 10, passed by an Hour: its unit is entered, and it is later than the unit's last
   hour-kept : (h : HourRecord) → (eqb (yearOf acc) 0 && true) ≡ false → within 1 32 (h .unit) ≡ true
