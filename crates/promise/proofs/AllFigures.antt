@@ -19,7 +19,7 @@ use Rattle.promise.specs.Reckoning.{yearOf, latestArea, unitOf, latestCo
 use Rattle.promise.specs.Reckoning.{Answered, answersOf}
 use Rattle.promise.specs.Figures.{year, area, unit, commitment, load, post, settled, figureGiven}
 use Rattle.promise.specs.Figures.{beforeLoads, beforeLoadsAnswers, reckonedRows, figures}
-use Rattle.promise.proofs.Runs.{none-next, accepted-next, refused-next}
+use Rattle.promise.proofs.Runs.{Fed, none-next, accepted-next, refused-next}
 use Rattle.promise.proofs.Example.{area₁, unit₁, unit₂, commitment₁, commitment₂, load₅, load₇, unloaded, loaded}
 use Rattle.promise.proofs.Example.{first-number, second-number, unloaded-number, first-lines, second-lines}
 
@@ -30,7 +30,8 @@ after₂ = Area area₁ ∷ Year 2010 ∷ []
 abbrev after₄ : List Record
 after₄ = Unit unit₂ ∷ Unit unit₁ ∷ after₂
 
-before-loads-run : (ss : List (List ℕ)) {rest : List Answered} → answersOf unloaded ss ≡ rest → answersOf [] (beforeLoads ++ ss) ≡ beforeLoadsAnswers ++ rest
+before-loads-run : (ss : List (List ℕ)) {rest : List Answered} {after : List Record} → Fed unloaded ss rest after
+    → Fed [] (beforeLoads ++ ss) (beforeLoadsAnswers ++ rest) after
 unfolding numberAt isBroken ofLength framed decoded within place leapYear deliveryDays areaFits unitFits commitmentFits refusalOf listBelow
     yearOf latestArea unitOf latestCommitment latestObligation acceptedHours sumOver lastIndex factsOfList
 before-loads-run ss more =
@@ -49,12 +50,14 @@ reckoned-figures = (
       (accepted-next (load 1 7 600000) (Load load₇) (Load load₅ ∷ unloaded) _ refl refl refl
       (accepted-next (post 1) (Post 1) loaded _ refl first-number first-lines
       (accepted-next (post 1) (Post 1) (Post 1 ∷ loaded) _ refl second-number second-lines
-      (refused-next (post 2) (Post 2) (Post 1 ∷ Post 1 ∷ loaded) [] 7 refl refl refl (none-next (Post 1 ∷ Post 1 ∷ loaded))))))),
+      (refused-next (post 2) (Post 2) (Post 1 ∷ Post 1 ∷ loaded) [] 7 refl refl refl (none-next (Post 1 ∷ Post 1 ∷ loaded)))))))
+      .answers-are,
   (
     before-loads-run _
         (refused-next (post 1) (Post 1) unloaded _ 11 refl refl unloaded-number
         (refused-next (post 1) (Post 1) unloaded _ 11 refl refl unloaded-number
-        (refused-next (post 2) (Post 2) unloaded [] 7 refl refl refl (none-next unloaded)))),
+        (refused-next (post 2) (Post 2) unloaded [] 7 refl refl refl (none-next unloaded))))
+        .answers-are,
     tt,
   ),
 )

@@ -1,6 +1,6 @@
 -- The worked example of 01, The ledger program: its facts, nets and dues.
 use mathlib.Core.Path.{_≡_, refl, sym, ap, _∙_}
-use mathlib.Core.Bool.{true, false, cond}
+use mathlib.Core.Bool.{Bool, true, false, cond}
 use mathlib.Core.List.{List, [], _∷_}
 use Prim.Native.Nat.{ℕ, zero, suc, _+_, _<_}
 use native.Mathlib.Omega.{arith}
@@ -65,33 +65,20 @@ unloaded = Commitment commitment₂ ∷ Commitment commitment₁ ∷ Unit unit�
 abbrev pub loaded : List Record
 loaded = Load load₇ ∷ Load load₅ ∷ unloaded
 
--- The facts of these lists, whatever the obligations. Computing row j at one go takes far too long; these facts, the nets
--- and the dues are each written out and computed from what comes before.
-abbrev example : (ℕ → ℕ → ℕ) → Facts
-example o = record {
+-- The facts of the example's areas, units and commitments, whatever the obligations and the hours. Computing row j at one go
+-- takes far too long; these facts, the nets and the dues are each written out and computed from what comes before.
+abbrev example : (ℕ → ℕ → ℕ) → (ℕ → ℕ) → (ℕ → ℕ) → (ℕ → ℕ) → (ℕ → ℕ) → Facts
+example o sh foh d last = record {
   year = 2010;
   area = λ k. cond (eqb 1 (k + 1)) area₁ noArea;
   unit = λ k. cond (eqb 2 (k + 1)) unit₂ (cond (eqb 1 (k + 1)) unit₁ noUnit);
   commitment = λ k. cond (eqb 2 (k + 1)) commitment₂ (cond (eqb 1 (k + 1)) commitment₁ noCommitment);
   obligation = o;
-  sh = λ u. 0;
-  foh = λ u. 0;
-  d = λ u. 0;
-  last = λ u. 0;
+  sh = sh;
+  foh = foh;
+  d = d;
+  last = last;
 }
-
-facts-unloaded : factsOfList unloaded ≡ example (λ a p. 0)
-unfolding factsOfList yearOf latestArea unitOf latestCommitment latestObligation acceptedHours sumOver lastIndex
-facts-unloaded = refl
-
-facts-loaded : factsOfList loaded ≡ example (latestObligation loaded)
-unfolding factsOfList yearOf latestArea unitOf latestCommitment latestObligation acceptedHours sumOver lastIndex
-facts-loaded = refl
-
--- a Post changes no fact
-post-keeps : (n : ℕ) (acc : List Record) → factsOfList (Post n ∷ acc) ≡ factsOfList acc
-unfolding factsOfList yearOf latestArea unitOf latestCommitment latestObligation acceptedHours
-post-keeps n acc = refl
 
 -- sums of which only the first two terms are other than 0
 sum-of-two : (n : ℕ) (f : ℕ → ℕ) → ((k : ℕ) → f (suc (suc k)) ≡ 0) → sumBelow (suc (suc n)) f ≡ f 0 + f 1
@@ -105,44 +92,113 @@ sum-of-twoℤ zero f none = refl
 sum-of-twoℤ (suc n) f none = rw (none n, +ℤ-idr (sumBelowℤ (suc (suc n)) f)) (sum-of-twoℤ n f none)
 
 -- party p's amount of a list
-abbrev amountOf : List ℤ → ℕ → ℤ
+abbrev pub amountOf : List ℤ → ℕ → ℤ
 amountOf l p = getD l p (pos 0)
 
 -- what the elements of a list are, the list being known
 by-list : {A : Type 0} (n : ℕ) (f : ℕ → A) (l : List A) (d : A) → listBelow n f ≡ l → (k : ℕ) → k < n → f k ≡ getD l k d
 by-list n f l d e k h = sym (element-below n f k d h) ∙ ap (λ x. getD x k d) e
 
--- what the two units' shortfalls are worked out from, no hours being entered
-abbrev facts₁ : UnitFacts
-facts₁ = unitFacts (example (λ a p. 0)) 0
-
-abbrev facts₂ : UnitFacts
-facts₂ = unitFacts (example (λ a p. 0)) 1
-
-abbrev obligations : List ℕ
-obligations = 0 ∷ 0 ∷ 0 ∷ 0 ∷ 500000 ∷ 0 ∷ 600000 ∷ 0 ∷ 0 ∷ 0 ∷ 0 ∷ 0 ∷ 0 ∷ 0 ∷ 0 ∷ 0 ∷ []
-
-obligations-listed : listBelow 16 (latestObligation loaded 0) ≡ obligations
-unfolding listBelow latestObligation
-obligations-listed = refl
-
 -- parties 5 and 6 have all of a unit each
 abbrev parts : ℕ → ℕ → ℕ → ℕ
 parts v₅ v₆ p = cond (eqb 5 (p + 1)) v₅ 0 + cond (eqb 6 (p + 1)) v₆ 0
+
+module _ (o : ℕ → ℕ → ℕ) (sh foh d last : ℕ → ℕ) where
+  abbrev facts : Facts
+  facts = example o sh foh d last
+
+  -- the shares of the two units, added up
+  abbrev pub added : ℕ → ℤ
+  added p = (pos 0 +ℤ unitShare (unitFacts facts 0) (parts 1460000000 0) 365 p) +ℤ unitShare (unitFacts facts 1) (parts 0 365000000) 365 p
+
+  no-unit : (k : ℕ) → facts .unit (suc (suc k)) ≡ noUnit
+  no-unit k = rw (ne-eqb 2 (suc (suc k) + 1) (λ e. omega arith), ne-eqb 1 (suc (suc k) + 1) (λ e. omega arith))
+
+  no-commitment : (k : ℕ) → facts .commitment (suc (suc k)) ≡ noCommitment
+  no-commitment k = rw (ne-eqb 2 (suc (suc k) + 1) (λ e. omega arith), ne-eqb 1 (suc (suc k) + 1) (λ e. omega arith))
+
+  part-first : (p : ℕ) → partFor facts 0 p ≡ parts 1460000000 0 p
+  unfolding partFor partOf wattDaysFor wattDays
+  part-first p = sum-of-two 62 _ (λ k. rw (no-commitment k, ne-eqb 0 (p + 1) (λ e. omega arith)))
+
+  part-second : (p : ℕ) → partFor facts 1 p ≡ parts 0 365000000 p
+  unfolding partFor partOf wattDaysFor wattDays
+  part-second p = sum-of-two 62 _ (λ k. rw (no-commitment k, ne-eqb 0 (p + 1) (λ e. omega arith)))
+
+  net-of-two : (p : ℕ) → p < 16 → netIn facts 0 p ≡ added p
+  unfolding netIn net shareIn sumBelowℤ deliveryDays leapYear
+  net-of-two p h =
+      sum-of-twoℤ 30 (λ u. shareIn facts 0 u p) (λ k. rw (no-unit k))
+      ∙ rw (
+        shares-same (unitFacts facts 0) _ (parts 1460000000 0) 365 (λ q b. part-first q) p h,
+        shares-same (unitFacts facts 1) _ (parts 0 365000000) 365 (λ q b. part-second q) p h,
+      )
+
+  -- nets, obligations and dues that are written out
+  module _ {nets : List ℤ} {obligations : List ℕ} (n : listBelow 16 added ≡ nets) (l : listBelow 16 (o 0) ≡ obligations) where
+    nets-are : (p : ℕ) → p < 16 → netIn facts 0 p ≡ amountOf nets p
+    nets-are p h = net-of-two p h ∙ by-list 16 added nets (pos 0) n p h
+
+    pub dues-are : {dues : List ℤ} → listBelow 16 (due (amountOf nets) 9000 365 (element obligations)) ≡ dues
+        → (p : ℕ) → p < 16 → dueIn facts 0 p ≡ amountOf dues p
+    unfolding dueIn deliveryDays leapYear
+    dues-are {dues} e p h =
+        due-same (netIn facts 0) (amountOf nets) 9000 365 (o 0) (element obligations) nets-are (by-list 16 _ obligations 0 l) p h
+        ∙ by-list 16 _ dues (pos 0) e p h
+
+    -- row 11, and with it the number of Post 1
+    pub placed-is : {t : Bool} → isUnplaced (amountOf nets) 9000 365 (element obligations) ≡ t → unplacedIn facts 0 ≡ t
+    unfolding unplacedIn deliveryDays leapYear
+    placed-is e = unplaced-same (netIn facts 0) (amountOf nets) 9000 365 (o 0) (element obligations) nets-are (by-list 16 _ obligations 0 l) ∙ e
+
+    pub post-accepted : isUnplaced (amountOf nets) 9000 365 (element obligations) ≡ false → refusalOf (asked facts (Post 1)) (Post 1) ≡ 0
+    unfolding within refusalOf place
+    post-accepted e = rw (placed-is e)
+
+    pub post-refused : isUnplaced (amountOf nets) 9000 365 (element obligations) ≡ true → refusalOf (asked facts (Post 1)) (Post 1) ≡ 11
+    unfolding within refusalOf place
+    post-refused e = rw (placed-is e)
+
+-- no hours
+abbrev none : ℕ → ℕ
+none u = 0
+
+facts-unloaded : factsOfList unloaded ≡ example (λ a p. 0) none none none none
+unfolding factsOfList yearOf latestArea unitOf latestCommitment latestObligation acceptedHours sumOver lastIndex
+facts-unloaded = refl
+
+facts-loaded : factsOfList loaded ≡ example (latestObligation loaded) none none none none
+unfolding factsOfList yearOf latestArea unitOf latestCommitment latestObligation acceptedHours sumOver lastIndex
+facts-loaded = refl
+
+-- a Post changes no fact
+pub post-keeps : (n : ℕ) (acc : List Record) → factsOfList (Post n ∷ acc) ≡ factsOfList acc
+unfolding factsOfList yearOf latestArea unitOf latestCommitment latestObligation acceptedHours
+post-keeps n acc = refl
+
+abbrev noObligations : List ℕ
+noObligations = 0 ∷ 0 ∷ 0 ∷ 0 ∷ 0 ∷ 0 ∷ 0 ∷ 0 ∷ 0 ∷ 0 ∷ 0 ∷ 0 ∷ 0 ∷ 0 ∷ 0 ∷ 0 ∷ []
+
+none-listed : listBelow 16 (λ p. 0) ≡ noObligations
+unfolding listBelow
+none-listed = refl
+
+abbrev pub obligations : List ℕ
+obligations = 0 ∷ 0 ∷ 0 ∷ 0 ∷ 500000 ∷ 0 ∷ 600000 ∷ 0 ∷ 0 ∷ 0 ∷ 0 ∷ 0 ∷ 0 ∷ 0 ∷ 0 ∷ 0 ∷ []
+
+pub obligations-listed : listBelow 16 (latestObligation loaded 0) ≡ obligations
+unfolding listBelow latestObligation
+obligations-listed = refl
 
 abbrev nets : List ℤ
 nets =
     pos 0 ∷ pos 0 ∷ pos 0 ∷ pos 0 ∷ pos 450000 ∷ negℤ (pos 100000) ∷ pos 0 ∷ pos 0
     ∷ pos 0 ∷ pos 0 ∷ pos 0 ∷ pos 0 ∷ pos 0 ∷ pos 0 ∷ pos 0 ∷ pos 0 ∷ []
 
--- the shares of the two units, added up
-abbrev added : ℕ → ℤ
-added p = (pos 0 +ℤ unitShare facts₁ (parts 1460000000 0) 365 p) +ℤ unitShare facts₂ (parts 0 365000000) 365 p
-
-nets-listed : listBelow 16 added ≡ nets
+nets-listed : (o : ℕ → ℕ → ℕ) → listBelow 16 (added o none none none none) ≡ nets
 unfolding listBelow sumBelow unitShare wattDaysOf limitedShortfall unitLimit unitShortfall limited limit quarters available unforced committed
     splitSigned withSign split firstShares
-nets-listed = refl
+nets-listed o = refl
 
 dues-listed : listBelow 16 (due (amountOf nets) 9000 365 (element obligations)) ≡ firstLines
 unfolding listBelow sumBelow above below priced charge ceiling charges ceilings credit left loadShare due split firstShares
@@ -152,67 +208,19 @@ placed : isUnplaced (amountOf nets) 9000 365 (element obligations) ≡ false
 unfolding sumBelow above below priced charge ceiling charges ceilings left isUnplaced
 placed = refl
 
-not-placed : isUnplaced (amountOf nets) 9000 365 (λ p. 0) ≡ true
+not-placed : isUnplaced (amountOf nets) 9000 365 (element noObligations) ≡ true
 unfolding sumBelow above below priced charge ceiling charges ceilings left isUnplaced
 not-placed = refl
 
-module _ (o : ℕ → ℕ → ℕ) where
-  no-unit : (k : ℕ) → example o .unit (suc (suc k)) ≡ noUnit
-  no-unit k = rw (ne-eqb 2 (suc (suc k) + 1) (λ e. omega arith), ne-eqb 1 (suc (suc k) + 1) (λ e. omega arith))
-
-  no-commitment : (k : ℕ) → example o .commitment (suc (suc k)) ≡ noCommitment
-  no-commitment k = rw (ne-eqb 2 (suc (suc k) + 1) (λ e. omega arith), ne-eqb 1 (suc (suc k) + 1) (λ e. omega arith))
-
-  part-first : (p : ℕ) → partFor (example o) 0 p ≡ parts 1460000000 0 p
-  unfolding partFor partOf wattDaysFor wattDays
-  part-first p = sum-of-two 62 _ (λ k. rw (no-commitment k, ne-eqb 0 (p + 1) (λ e. omega arith)))
-
-  part-second : (p : ℕ) → partFor (example o) 1 p ≡ parts 0 365000000 p
-  unfolding partFor partOf wattDaysFor wattDays
-  part-second p = sum-of-two 62 _ (λ k. rw (no-commitment k, ne-eqb 0 (p + 1) (λ e. omega arith)))
-
-  net-of-two : (p : ℕ) → p < 16 → netIn (example o) 0 p ≡ added p
-  unfolding netIn net shareIn sumBelowℤ deliveryDays leapYear
-  net-of-two p h =
-      sum-of-twoℤ 30 (λ u. shareIn (example o) 0 u p) (λ k. rw (no-unit k))
-      ∙ rw (
-        shares-same facts₁ _ (parts 1460000000 0) 365 (λ q b. part-first q) p h,
-        shares-same facts₂ _ (parts 0 365000000) 365 (λ q b. part-second q) p h,
-      )
-
-  nets-are : (p : ℕ) → p < 16 → netIn (example o) 0 p ≡ amountOf nets p
-  nets-are p h = net-of-two p h ∙ by-list 16 added nets (pos 0) nets-listed p h
-
 -- the dues with both Loads; with them no money is left over unplaced, without them some is
-dues-are : (p : ℕ) → p < 16 → reckonedDue loaded 0 p ≡ amountOf firstLines p
-unfolding reckonedDue dueIn deliveryDays leapYear
-dues-are p h =
+dues-loaded : (p : ℕ) → p < 16 → reckonedDue loaded 0 p ≡ amountOf firstLines p
+unfolding reckonedDue
+dues-loaded p h =
     ap (λ (F : Facts). dueIn F 0 p) facts-loaded
-    ∙ due-same (netIn (example (latestObligation loaded)) 0) (amountOf nets) 9000 365 (latestObligation loaded 0) (element obligations)
-    (nets-are (latestObligation loaded)) (by-list 16 _ obligations 0 obligations-listed) p h
-    ∙ by-list 16 _ firstLines (pos 0) dues-listed p h
+    ∙ dues-are (latestObligation loaded) none none none none (nets-listed (latestObligation loaded)) obligations-listed dues-listed p h
 
-placed-loaded : unplacedIn (example (latestObligation loaded)) 0 ≡ false
-unfolding unplacedIn deliveryDays leapYear
-placed-loaded =
-    unplaced-same (netIn (example (latestObligation loaded)) 0) (amountOf nets) 9000 365 (latestObligation loaded 0) (element obligations)
-    (nets-are (latestObligation loaded)) (by-list 16 _ obligations 0 obligations-listed)
-    ∙ placed
-
-unplaced-unloaded : unplacedIn (example (λ a p. 0)) 0 ≡ true
-unfolding unplacedIn deliveryDays leapYear
-unplaced-unloaded =
-    unplaced-same (netIn (example (λ a p. 0)) 0) (amountOf nets) 9000 365 (λ p. 0) (λ p. 0) (nets-are (λ a p. 0)) (λ p h. refl)
-    ∙ not-placed
-
--- the number of Post 1
-post-loaded : refusalOf (asked (example (latestObligation loaded)) (Post 1)) (Post 1) ≡ 0
-unfolding within refusalOf place
-post-loaded = rw placed-loaded
-
-post-unloaded : refusalOf (asked (example (λ a p. 0)) (Post 1)) (Post 1) ≡ 11
-unfolding within refusalOf place
-post-unloaded = rw unplaced-unloaded
+post-loaded : refusalOf (asked (example (latestObligation loaded) none none none none) (Post 1)) (Post 1) ≡ 0
+post-loaded = post-accepted (latestObligation loaded) none none none none (nets-listed (latestObligation loaded)) obligations-listed placed
 
 pub first-number : refusalOf (asked (factsOfList loaded) (Post 1)) (Post 1) ≡ 0
 first-number = rw facts-loaded post-loaded
@@ -221,16 +229,16 @@ pub second-number : refusalOf (asked (factsOfList (Post 1 ∷ loaded)) (Post 1))
 second-number = rw (post-keeps 1 loaded, facts-loaded) post-loaded
 
 pub unloaded-number : refusalOf (asked (factsOfList unloaded) (Post 1)) (Post 1) ≡ 11
-unloaded-number = rw facts-unloaded post-unloaded
+unloaded-number = rw facts-unloaded (post-refused (λ a p. 0) none none none none (nets-listed (λ a p. 0)) none-listed not-placed)
 
 -- its lines, the first time and the second
 pub first-lines : listBelow 16 (reckonedLine loaded 0) ≡ firstLines
 unfolding listBelow reckonedLine reckonedPaid line
-first-lines = list-same 16 (reckonedLine loaded 0) (λ p. line (amountOf firstLines p) (pos 0)) (λ p h. rw (dues-are p h)) ∙ refl
+first-lines = list-same 16 (reckonedLine loaded 0) (λ p. line (amountOf firstLines p) (pos 0)) (λ p h. rw (dues-loaded p h)) ∙ refl
 
 pub second-lines : listBelow 16 (reckonedLine (Post 1 ∷ loaded) 0) ≡ noLines
 unfolding listBelow reckonedLine reckonedPaid reckonedDue line
 second-lines =
     list-same 16 (reckonedLine (Post 1 ∷ loaded) 0) (λ p. line (amountOf firstLines p) (amountOf firstLines p))
-    (λ p h. rw (post-keeps 1 loaded, dues-are p h))
+    (λ p h. rw (post-keeps 1 loaded, dues-loaded p h))
     ∙ refl

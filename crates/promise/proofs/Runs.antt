@@ -12,7 +12,7 @@ use Rattle.records.specs.Kinds.{ofPost}
 use Rattle.records.specs.Refusal.{refusalOf}
 use Rattle.records.specs.Facts.{Facts}
 use Rattle.records.specs.Rules.{asked, refusal}
-use Rattle.promise.specs.Reckoning.{factsOfList, Answered, numberFor, acceptedWith, reckonedLine, lineFor, answersOf}
+use Rattle.promise.specs.Reckoning.{factsOfList, Answered, numberFor, acceptedWith, reckonedLine, lineFor, answersOf, acceptedOf}
 use Rattle.promise.specs.Figures.{answer, noLines}
 
 number-of : (F : Facts) (s : List ℕ) (r : Record) (n : ℕ) → decoded s ≡ r → refusalOf (asked F r) r ≡ n → refusal F s ≡ n
@@ -29,22 +29,31 @@ module _ (acc : List Record) (s : List ℕ) where
   unfolding acceptedWith
   list-kept q = rw q
 
-pub none-next : (acc : List Record) → answersOf acc [] ≡ []
-unfolding answersOf
-none-next acc = refl
+-- what strings are answered with, from a list on, and the list after them
+pub record Fed (acc : List Record) (ss : List (List ℕ)) (answers : List Answered) (after : List Record) : Type 0 where
+  pub answers-are : answersOf acc ss ≡ answers
+  pub list-is : acceptedOf acc ss ≡ after
 
-module _ (s : List ℕ) (r : Record) (acc : List Record) (ss : List (List ℕ)) {rest : List Answered} where
+pub none-next : (acc : List Record) → Fed acc [] [] acc
+unfolding answersOf acceptedOf
+none-next acc = record { answers-are = refl; list-is = refl }
+
+module _ (s : List ℕ) (r : Record) (acc : List Record) (ss : List (List ℕ)) {rest : List Answered} {after : List Record} where
   pub accepted-next : {lines : List ℤ} → decoded s ≡ r → refusalOf (asked (factsOfList acc) r) r ≡ 0
       → listBelow 16 (λ p. ofPost (pos 0) (λ n. reckonedLine acc (n - 1) p) r) ≡ lines
-      → answersOf (r ∷ acc) ss ≡ rest → answersOf acc (s ∷ ss) ≡ answer 0 lines ∷ rest
-  unfolding answersOf lineFor listBelow
+      → Fed (r ∷ acc) ss rest after → Fed acc (s ∷ ss) (answer 0 lines ∷ rest) after
+  unfolding answersOf acceptedOf lineFor listBelow
   accepted-next d e l more =
       let number : numberFor acc s ≡ 0 = number-of (factsOfList acc) s r 0 d e in
-      rw (list-after acc s number, number, d, l, more)
+      record {
+        answers-are = rw (list-after acc s number, number, d, l, more .answers-are);
+        list-is = rw (list-after acc s number, d) (more .list-is);
+      }
 
   pub refused-next : (n : ℕ) → eqb n 0 ≡ false → decoded s ≡ r → refusalOf (asked (factsOfList acc) r) r ≡ n
-      → answersOf acc ss ≡ rest → answersOf acc (s ∷ ss) ≡ answer n noLines ∷ rest
-  unfolding answersOf lineFor listBelow
+      → Fed acc ss rest after → Fed acc (s ∷ ss) (answer n noLines ∷ rest) after
+  unfolding answersOf acceptedOf lineFor listBelow
   refused-next n q d e more =
       let number : numberFor acc s ≡ n = number-of (factsOfList acc) s r n d e in
-      rw (list-kept acc s (rw number q), number, q, more)
+      let kept : acceptedWith acc s ≡ acc = list-kept acc s (rw number q) in
+      record { answers-are = rw (kept, number, q, more .answers-are); list-is = rw kept (more .list-is) }
