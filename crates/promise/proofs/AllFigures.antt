@@ -1,5 +1,5 @@
 -- The definitions give figures a to j.
-use mathlib.Core.Path.{_≡_, refl}
+use mathlib.Core.Path.{refl}
 use mathlib.Core.List.{List, [], _∷_, _++_, map}
 use Prim.Native.Nat.{ℕ}
 use Rattle.calendar.specs.Range.{within}
@@ -16,7 +16,7 @@ use Rattle.records.specs.Decoded.{isBroken, ofLength, framed, decoded}
 use Rattle.records.specs.Refusal.{areaFits, unitFits, commitmentFits, loadFits, refusalOf}
 use Rattle.records.specs.Rules.{place}
 use Rattle.promise.specs.Reckoning.{yearOf, latestArea, unitOf, latestCommitment, latestObligation, acceptedHours, sumOver, lastIndex, factsOfList}
-use Rattle.promise.specs.Reckoning.{Answered, answersOf}
+use Rattle.promise.specs.Reckoning.{Answered}
 use Rattle.promise.specs.Figures.{year, area, unit, commitment, load, post, settled, figureGiven}
 use Rattle.promise.specs.Figures.{beforeLoads, beforeLoadsAnswers, reckonedRows, figures}
 use Rattle.promise.proofs.Runs.{Fed, none-next, accepted-next, refused-next}
@@ -25,18 +25,18 @@ use Rattle.promise.proofs.Example.{first-number, second-number, unloade
 
 -- the lists as the strings are accepted
 abbrev after₂ : List Record
-after₂ = Area area₁ ∷ Year 2010 ∷ []
+after₂ = Area (area₁ 9000) ∷ Year 2010 ∷ []
 
 abbrev after₄ : List Record
 after₄ = Unit unit₂ ∷ Unit unit₁ ∷ after₂
 
-before-loads-run : (ss : List (List ℕ)) {rest : List Answered} {after : List Record} → Fed unloaded ss rest after
+pub before-loads-run : (ss : List (List ℕ)) {rest : List Answered} {after : List Record} → Fed unloaded ss rest after
     → Fed [] (beforeLoads ++ ss) (beforeLoadsAnswers ++ rest) after
 unfolding numberAt isBroken ofLength framed decoded within place leapYear deliveryDays areaFits unitFits commitmentFits refusalOf listBelow
     yearOf latestArea unitOf latestCommitment latestObligation acceptedHours sumOver lastIndex factsOfList
 before-loads-run ss more =
     accepted-next (year 2010) (Year 2010) [] _ refl refl refl
-    (accepted-next (area 1 9000) (Area area₁) (Year 2010 ∷ []) _ refl refl refl
+    (accepted-next (area 1 9000) (Area (area₁ 9000)) (Year 2010 ∷ []) _ refl refl refl
     (accepted-next (unit 1 1 4500000 30000 5000 15000 0) (Unit unit₁) after₂ _ refl refl refl
     (accepted-next (unit 2 1 1000000 0 10000 0 0) (Unit unit₂) (Unit unit₁ ∷ after₂) _ refl refl refl
     (accepted-next (commitment 1 1 5 0 364 4000000) (Commitment commitment₁) after₄ _ refl refl refl

@@ -12,7 +12,6 @@ use Rattle.calendar.specs.Sum.{sumBelow}
 use Rattle.calendar.specs.Range.{within}
 use Rattle.calendar.specs.Gregorian.{leapYear}
 use Rattle.calendar.specs.DeliveryYear.{deliveryDays}
-use Rattle.settlement.specs.declared.capacity.UnitFacts.{UnitFacts}
 use Rattle.settlement.specs.Lists.{listBelow, element}
 use Rattle.settlement.specs.Signed.{above, below, sumBelowℤ}
 use Rattle.settlement.specs.Quantities.{installedWatts}
@@ -38,8 +37,8 @@ use Rattle.promise.specs.Reckoning.{reckonedDue, reckonedPaid, reckonedL
 use Rattle.promise.specs.Figures.{noLines, firstLines}
 
 -- the records of the strings
-abbrev pub area₁ : AreaRecord
-area₁ = record { area = 1; price = 9000 }
+abbrev pub area₁ : ℕ → AreaRecord
+area₁ price = record { area = 1; price = price }
 
 abbrev pub unit₁ : UnitRecord
 unit₁ = record { unit = 1; area = 1; installed = installedWatts 4500000; e = 30000; f = 5000; g = 15000; class = 0 }
@@ -60,17 +59,17 @@ abbrev pub load₇ : LoadRecord
 load₇ = record { area = 1; party = 7; obligation = 600000 }
 
 abbrev pub unloaded : List Record
-unloaded = Commitment commitment₂ ∷ Commitment commitment₁ ∷ Unit unit₂ ∷ Unit unit₁ ∷ Area area₁ ∷ Year 2010 ∷ []
+unloaded = Commitment commitment₂ ∷ Commitment commitment₁ ∷ Unit unit₂ ∷ Unit unit₁ ∷ Area (area₁ 9000) ∷ Year 2010 ∷ []
 
 abbrev pub loaded : List Record
 loaded = Load load₇ ∷ Load load₅ ∷ unloaded
 
--- The facts of the example's areas, units and commitments, whatever the obligations and the hours. Computing row j at one go
+-- The facts of the example's area, units and commitments, whatever price, obligations and hours. Computing row j at one go
 -- takes far too long; these facts, the nets and the dues are each written out and computed from what comes before.
-abbrev example : (ℕ → ℕ → ℕ) → (ℕ → ℕ) → (ℕ → ℕ) → (ℕ → ℕ) → (ℕ → ℕ) → Facts
-example o sh foh d last = record {
+abbrev pub example : ℕ → (ℕ → ℕ → ℕ) → (ℕ → ℕ) → (ℕ → ℕ) → (ℕ → ℕ) → (ℕ → ℕ) → Facts
+example price o sh foh d last = record {
   year = 2010;
-  area = λ k. cond (eqb 1 (k + 1)) area₁ noArea;
+  area = λ k. cond (eqb 1 (k + 1)) (area₁ price) noArea;
   unit = λ k. cond (eqb 2 (k + 1)) unit₂ (cond (eqb 1 (k + 1)) unit₁ noUnit);
   commitment = λ k. cond (eqb 2 (k + 1)) commitment₂ (cond (eqb 1 (k + 1)) commitment₁ noCommitment);
   obligation = o;
@@ -103,9 +102,9 @@ by-list n f l d e k h = sym (element-below n f k d h) ∙ ap (λ x. getD x k d) 
 abbrev parts : ℕ → ℕ → ℕ → ℕ
 parts v₅ v₆ p = cond (eqb 5 (p + 1)) v₅ 0 + cond (eqb 6 (p + 1)) v₆ 0
 
-module _ (o : ℕ → ℕ → ℕ) (sh foh d last : ℕ → ℕ) where
+module _ (price : ℕ) (o : ℕ → ℕ → ℕ) (sh foh d last : ℕ → ℕ) where
   abbrev facts : Facts
-  facts = example o sh foh d last
+  facts = example price o sh foh d last
 
   -- the shares of the two units, added up
   abbrev pub added : ℕ → ℤ
@@ -139,35 +138,41 @@ module _ (o : ℕ → ℕ → ℕ) (sh foh d last : ℕ → ℕ) where
     nets-are : (p : ℕ) → p < 16 → netIn facts 0 p ≡ amountOf nets p
     nets-are p h = net-of-two p h ∙ by-list 16 added nets (pos 0) n p h
 
-    pub dues-are : {dues : List ℤ} → listBelow 16 (due (amountOf nets) 9000 365 (element obligations)) ≡ dues
+    pub dues-are : {dues : List ℤ} → listBelow 16 (due (amountOf nets) price 365 (element obligations)) ≡ dues
         → (p : ℕ) → p < 16 → dueIn facts 0 p ≡ amountOf dues p
     unfolding dueIn deliveryDays leapYear
     dues-are {dues} e p h =
-        due-same (netIn facts 0) (amountOf nets) 9000 365 (o 0) (element obligations) nets-are (by-list 16 _ obligations 0 l) p h
+        due-same (netIn facts 0) (amountOf nets) price 365 (o 0) (element obligations) nets-are (by-list 16 _ obligations 0 l) p h
         ∙ by-list 16 _ dues (pos 0) e p h
 
     -- row 11, and with it the number of Post 1
-    pub placed-is : {t : Bool} → isUnplaced (amountOf nets) 9000 365 (element obligations) ≡ t → unplacedIn facts 0 ≡ t
+    pub placed-is : {t : Bool} → isUnplaced (amountOf nets) price 365 (element obligations) ≡ t → unplacedIn facts 0 ≡ t
     unfolding unplacedIn deliveryDays leapYear
-    placed-is e = unplaced-same (netIn facts 0) (amountOf nets) 9000 365 (o 0) (element obligations) nets-are (by-list 16 _ obligations 0 l) ∙ e
+    placed-is e = unplaced-same (netIn facts 0) (amountOf nets) price 365 (o 0) (element obligations) nets-are (by-list 16 _ obligations 0 l) ∙ e
 
-    pub post-accepted : isUnplaced (amountOf nets) 9000 365 (element obligations) ≡ false → refusalOf (asked facts (Post 1)) (Post 1) ≡ 0
+    pub post-accepted : isUnplaced (amountOf nets) price 365 (element obligations) ≡ false → refusalOf (asked facts (Post 1)) (Post 1) ≡ 0
     unfolding within refusalOf place
     post-accepted e = rw (placed-is e)
 
-    pub post-refused : isUnplaced (amountOf nets) 9000 365 (element obligations) ≡ true → refusalOf (asked facts (Post 1)) (Post 1) ≡ 11
+    pub post-refused : isUnplaced (amountOf nets) price 365 (element obligations) ≡ true → refusalOf (asked facts (Post 1)) (Post 1) ≡ 11
     unfolding within refusalOf place
     post-refused e = rw (placed-is e)
+
+-- the lines of a Post, from its dues and what was paid before
+pub lines-are : (acc : List Record) (dues : List ℤ) (paid : ℕ → ℤ) → ((p : ℕ) → p < 16 → reckonedDue acc 0 p ≡ amountOf dues p)
+    → ((p : ℕ) → p < 16 → reckonedPaid acc 0 p ≡ paid p) → listBelow 16 (reckonedLine acc 0) ≡ listBelow 16 (λ p. line (amountOf dues p) (paid p))
+unfolding reckonedLine
+lines-are acc dues paid d e = list-same 16 (reckonedLine acc 0) (λ p. line (amountOf dues p) (paid p)) (λ p h. rw (d p h, e p h))
 
 -- no hours
 abbrev none : ℕ → ℕ
 none u = 0
 
-facts-unloaded : factsOfList unloaded ≡ example (λ a p. 0) none none none none
+facts-unloaded : factsOfList unloaded ≡ example 9000 (λ a p. 0) none none none none
 unfolding factsOfList yearOf latestArea unitOf latestCommitment latestObligation acceptedHours sumOver lastIndex
 facts-unloaded = refl
 
-facts-loaded : factsOfList loaded ≡ example (latestObligation loaded) none none none none
+facts-loaded : factsOfList loaded ≡ example 9000 (latestObligation loaded) none none none none
 unfolding factsOfList yearOf latestArea unitOf latestCommitment latestObligation acceptedHours sumOver lastIndex
 facts-loaded = refl
 
@@ -195,7 +200,7 @@ nets =
     pos 0 ∷ pos 0 ∷ pos 0 ∷ pos 0 ∷ pos 450000 ∷ negℤ (pos 100000) ∷ pos 0 ∷ pos 0
     ∷ pos 0 ∷ pos 0 ∷ pos 0 ∷ pos 0 ∷ pos 0 ∷ pos 0 ∷ pos 0 ∷ pos 0 ∷ []
 
-nets-listed : (o : ℕ → ℕ → ℕ) → listBelow 16 (added o none none none none) ≡ nets
+nets-listed : (o : ℕ → ℕ → ℕ) → listBelow 16 (added 9000 o none none none none) ≡ nets
 unfolding listBelow sumBelow unitShare wattDaysOf limitedShortfall unitLimit unitShortfall limited limit quarters available unforced committed
     splitSigned withSign split firstShares
 nets-listed o = refl
@@ -217,10 +222,10 @@ dues-loaded : (p : ℕ) → p < 16 → reckonedDue loaded 0 p ≡ amountOf first
 unfolding reckonedDue
 dues-loaded p h =
     ap (λ (F : Facts). dueIn F 0 p) facts-loaded
-    ∙ dues-are (latestObligation loaded) none none none none (nets-listed (latestObligation loaded)) obligations-listed dues-listed p h
+    ∙ dues-are 9000 (latestObligation loaded) none none none none (nets-listed (latestObligation loaded)) obligations-listed dues-listed p h
 
-post-loaded : refusalOf (asked (example (latestObligation loaded) none none none none) (Post 1)) (Post 1) ≡ 0
-post-loaded = post-accepted (latestObligation loaded) none none none none (nets-listed (latestObligation loaded)) obligations-listed placed
+post-loaded : refusalOf (asked (example 9000 (latestObligation loaded) none none none none) (Post 1)) (Post 1) ≡ 0
+post-loaded = post-accepted 9000 (latestObligation loaded) none none none none (nets-listed (latestObligation loaded)) obligations-listed placed
 
 pub first-number : refusalOf (asked (factsOfList loaded) (Post 1)) (Post 1) ≡ 0
 first-number = rw facts-loaded post-loaded
@@ -229,16 +234,14 @@ pub second-number : refusalOf (asked (factsOfList (Post 1 ∷ loaded)) (Post 1))
 second-number = rw (post-keeps 1 loaded, facts-loaded) post-loaded
 
 pub unloaded-number : refusalOf (asked (factsOfList unloaded) (Post 1)) (Post 1) ≡ 11
-unloaded-number = rw facts-unloaded (post-refused (λ a p. 0) none none none none (nets-listed (λ a p. 0)) none-listed not-placed)
+unloaded-number = rw facts-unloaded (post-refused 9000 (λ a p. 0) none none none none (nets-listed (λ a p. 0)) none-listed not-placed)
 
 -- its lines, the first time and the second
 pub first-lines : listBelow 16 (reckonedLine loaded 0) ≡ firstLines
-unfolding listBelow reckonedLine reckonedPaid line
-first-lines = list-same 16 (reckonedLine loaded 0) (λ p. line (amountOf firstLines p) (pos 0)) (λ p h. rw (dues-loaded p h)) ∙ refl
+unfolding listBelow reckonedPaid line
+first-lines = lines-are loaded firstLines (λ p. pos 0) dues-loaded (λ p h. refl) ∙ refl
 
 pub second-lines : listBelow 16 (reckonedLine (Post 1 ∷ loaded) 0) ≡ noLines
-unfolding listBelow reckonedLine reckonedPaid reckonedDue line
+unfolding listBelow reckonedPaid reckonedDue line
 second-lines =
-    list-same 16 (reckonedLine (Post 1 ∷ loaded) 0) (λ p. line (amountOf firstLines p) (amountOf firstLines p))
-    (λ p h. rw (post-keeps 1 loaded, dues-loaded p h))
-    ∙ refl
+    lines-are (Post 1 ∷ loaded) firstLines (amountOf firstLines) (λ p h. rw (post-keeps 1 loaded) (dues-loaded p h)) (λ p h. dues-loaded p h) ∙ refl

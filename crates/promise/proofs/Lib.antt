@@ -12,3 +12,4 @@ pub mod Storing
 pub mod WholeLogs
 pub mod Example
 pub mod AllFigures
+pub mod Ways

@@ -3,4 +3,5 @@ pub mod Standing
 pub mod Promise
 pub mod Logs
 pub mod Figures
+pub mod TwoWays
 pub mod Laws

@@ -3,6 +3,7 @@ ghost use Rattle.calendar.specs.Figures.{EachGiven};
 ghost use Rattle.promise.specs.Promise.{Promise};
 ghost use Rattle.promise.specs.Laws.{LinesAddUp, SameAnswers, SameFacts, PartsAddUp, EveryLog};
 ghost use Rattle.promise.specs.Figures.{figureGiven, figures};
+ghost use Rattle.promise.specs.TwoWays.{TwoWays};
 
 // Figures a to j.
 pub fn figures()
@@ -12,6 +13,11 @@ pub fn figures()
 // Demand 3.
 pub fn promised()
     ensures { λ _. ⌜ Promise ⌝ }
+{}
+
+// What `order` of the promise speaks of occurs, with an Hour, replaced records and an early Post.
+pub fn two_ways()
+    ensures { λ _. ⌜ TwoWays ⌝ }
 {}
 
 // The book's answers are the reckoning's, so that figure j is the book's too.
