@@ -143,14 +143,15 @@ facts-early = λ i. record {
   last = last;
 }
 
+-- the area's record is replaced; the rest is as it was at the early Post
 facts-second : factsOfList second ≡ withHour 9000
 unfolding factsOfList yearOf latestArea unitOf latestCommitment latestObligation acceptedHours
 facts-second = λ i. record {
   year = 2010;
   area = λ k. areas-same k i;
-  unit = λ k. units-same k i;
-  commitment = λ k. commitments-same k i;
-  obligation = λ a p. obligations-same a p i;
+  unit = facts-early i .unit;
+  commitment = facts-early i .commitment;
+  obligation = facts-early i .obligation;
   sh = sh;
   foh = foh;
   d = d;
@@ -167,44 +168,38 @@ unfolding sumBelow within leapYear monthDays isDate multiplesBelow daysBeforeYea
     splitSigned withSign split firstShares
 nets-listed price = refl
 
+-- dues and row 11 at a price
+abbrev duesAt : ℕ → List ℤ
+duesAt price = listBelow 16 (due (amountOf nets) price 365 (element obligations))
+
+abbrev unplacedAt : ℕ → Bool
+unplacedAt price = isUnplaced (amountOf nets) price 365 (element obligations)
+
+money : (duesAt 9000 ≡ lines) × (unplacedAt 9000 ≡ false) × (duesAt 100 ≡ earlyLines) × (unplacedAt 100 ≡ false)
+unfolding listBelow sumBelow above below priced charge ceiling charges ceilings credit left loadShare due isUnplaced split firstShares
+money = (refl, refl, refl, refl)
+
 module _ (acc : List Record) (price : ℕ) (f : factsOfList acc ≡ withHour price) where
-  dues-of : {dues : List ℤ} → listBelow 16 (due (amountOf nets) price 365 (element obligations)) ≡ dues
-      → (p : ℕ) → p < 16 → reckonedDue acc 0 p ≡ amountOf dues p
+  dues-of : {dues : List ℤ} → duesAt price ≡ dues → (p : ℕ) → p < 16 → reckonedDue acc 0 p ≡ amountOf dues p
   unfolding reckonedDue
   dues-of e p h =
       ap (λ (F : Facts). dueIn F 0 p) f ∙ dues-are price (latestObligation loaded) sh foh d last (nets-listed price) obligations-listed e p h
 
-  number-of : isUnplaced (amountOf nets) price 365 (element obligations) ≡ false → refusalOf (asked (factsOfList acc) (Post 1)) (Post 1) ≡ 0
+  number-of : unplacedAt price ≡ false → refusalOf (asked (factsOfList acc) (Post 1)) (Post 1) ≡ 0
   number-of e = rw f (post-accepted price (latestObligation loaded) sh foh d last (nets-listed price) obligations-listed e)
-
-dues-listed : listBelow 16 (due (amountOf nets) 9000 365 (element obligations)) ≡ lines
-unfolding listBelow sumBelow above below priced charge ceiling charges ceilings credit left loadShare due split firstShares
-dues-listed = refl
-
-early-listed : listBelow 16 (due (amountOf nets) 100 365 (element obligations)) ≡ earlyLines
-unfolding listBelow sumBelow above below priced charge ceiling charges ceilings credit left loadShare due split firstShares
-early-listed = refl
-
-placed : isUnplaced (amountOf nets) 9000 365 (element obligations) ≡ false
-unfolding sumBelow above below priced charge ceiling charges ceilings left isUnplaced
-placed = refl
-
-early-placed : isUnplaced (amountOf nets) 100 365 (element obligations) ≡ false
-unfolding sumBelow above below priced charge ceiling charges ceilings left isUnplaced
-early-placed = refl
 
 lines-first : listBelow 16 (reckonedLine first 0) ≡ lines
 unfolding listBelow reckonedPaid line
-lines-first = lines-are first lines (λ p. pos 0) (dues-of first 9000 facts-first dues-listed) (λ p h. refl) ∙ refl
+lines-first = lines-are first lines (λ p. pos 0) (dues-of first 9000 facts-first (money .0)) (λ p h. refl) ∙ refl
 
 lines-early : listBelow 16 (reckonedLine early 0) ≡ earlyLines
 unfolding listBelow reckonedPaid line
-lines-early = lines-are early earlyLines (λ p. pos 0) (dues-of early 100 facts-early early-listed) (λ p h. refl) ∙ refl
+lines-early = lines-are early earlyLines (λ p. pos 0) (dues-of early 100 facts-early (money .2)) (λ p h. refl) ∙ refl
 
 lines-second : listBelow 16 (reckonedLine second 0) ≡ laterLines
 unfolding listBelow reckonedPaid line
 lines-second =
-    lines-are second lines (amountOf earlyLines) (dues-of second 9000 facts-second dues-listed) (dues-of early 100 facts-early early-listed) ∙ refl
+    lines-are second lines (amountOf earlyLines) (dues-of second 9000 facts-second (money .0)) (dues-of early 100 facts-early (money .2)) ∙ refl
 
 one-fed : Fed [] oneWay (beforeLoadsAnswers ++ (answer 0 noLines ∷ answer 0 noLines ∷ answer 0 noLines ∷ answer 0 lines ∷ [])) (Post 1 ∷ first)
 unfolding numberAt isBroken ofLength framed decoded within place loadFits deratingFits hourFits refusalOf listBelow leapYear monthDays isDate
@@ -215,7 +210,7 @@ one-fed =
     (accepted-next (load 1 5 500000) (Load load₅) unloaded _ refl refl refl
     (accepted-next (load 1 7 600000) (Load load₇) (Load load₅ ∷ unloaded) _ refl refl refl
     (accepted-next derated (Hour hour₁) loaded _ refl refl refl
-    (accepted-next (post 1) (Post 1) first [] refl (number-of first 9000 facts-first placed) lines-first (none-next (Post 1 ∷ first))))))
+    (accepted-next (post 1) (Post 1) first [] refl (number-of first 9000 facts-first (money .1)) lines-first (none-next (Post 1 ∷ first))))))
 
 another-fed : Fed [] anotherWay
     (beforeLoadsAnswers ++ (answer 0 noLines ∷ answer 0 noLines ∷ answer 10 noLines ∷ answer 0 noLines ∷ answer 0 noLines ∷ answer 0 earlyLines
@@ -236,9 +231,9 @@ another-fed =
     (refused-next derated (Hour hour₁) second₈ _ 10 refl refl refl
     (accepted-next (load 1 5 500000) (Load load₅) second₈ _ refl refl refl
     (accepted-next (commitment 1 1 5 0 364 4000000) (Commitment commitment₁) (Load load₅ ∷ second₈) _ refl refl refl
-    (accepted-next (post 1) (Post 1) early _ refl (number-of early 100 facts-early early-placed) lines-early
+    (accepted-next (post 1) (Post 1) early _ refl (number-of early 100 facts-early (money .3)) lines-early
     (accepted-next (area 1 9000) (Area (area₁ 9000)) (Post 1 ∷ early) _ refl refl refl
-    (accepted-next (post 1) (Post 1) second [] refl (number-of second 9000 facts-second placed) lines-second (none-next (Post 1 ∷ second)))))))))))))))
+    (accepted-next (post 1) (Post 1) second [] refl (number-of second 9000 facts-second (money .1)) lines-second (none-next (Post 1 ∷ second)))))))))))))))
 
 standing : SameStanding (Post 1 ∷ first) (Post 1 ∷ second)
 unfolding yearOf unitOf latestArea latestCommitment latestObligation acceptedHours
