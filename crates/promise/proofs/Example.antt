@@ -34,7 +34,7 @@ use Rattle.records.specs.Rules.{place, asked}
 use Rattle.records.specs.Dues.{unitFacts, wattDaysFor, partFor, shareIn, netIn, dueIn, unplacedIn}
 use Rattle.promise.specs.Reckoning.{yearOf, latestArea, unitOf, latestCommitment, latestObligation, acceptedHours, sumOver, lastIndex, factsOfList}
 use Rattle.promise.specs.Reckoning.{reckonedDue, reckonedPaid, reckonedLine}
-use Rattle.promise.specs.Figures.{noLines, firstLines}
+use Rattle.promise.specs.Figures.{noLines, ofThree, firstLines}
 
 -- the records of the strings
 abbrev pub area₁ : ℕ → AreaRecord
@@ -162,7 +162,9 @@ module _ (price : ℕ) (o : ℕ → ℕ → ℕ) (sh foh d last : ℕ → ℕ) w
 pub lines-are : (acc : List Record) (dues : List ℤ) (paid : ℕ → ℤ) → ((p : ℕ) → p < 16 → reckonedDue acc 0 p ≡ amountOf dues p)
     → ((p : ℕ) → p < 16 → reckonedPaid acc 0 p ≡ paid p) → listBelow 16 (reckonedLine acc 0) ≡ listBelow 16 (λ p. line (amountOf dues p) (paid p))
 unfolding reckonedLine
-lines-are acc dues paid d e = list-same 16 (reckonedLine acc 0) (λ p. line (amountOf dues p) (paid p)) (λ p h. rw (d p h, e p h))
+lines-are acc dues paid d e =
+    list-same 16 (reckonedLine acc 0) (λ p. line (amountOf dues p) (paid p))
+    (λ p h. ap (λ (z : ℤ). line z (reckonedPaid acc 0 p)) (d p h) ∙ ap (line (amountOf dues p)) (e p h))
 
 -- no hours
 abbrev none : ℕ → ℕ
@@ -196,9 +198,7 @@ unfolding listBelow latestObligation
 obligations-listed = refl
 
 abbrev nets : List ℤ
-nets =
-    pos 0 ∷ pos 0 ∷ pos 0 ∷ pos 0 ∷ pos 450000 ∷ negℤ (pos 100000) ∷ pos 0 ∷ pos 0
-    ∷ pos 0 ∷ pos 0 ∷ pos 0 ∷ pos 0 ∷ pos 0 ∷ pos 0 ∷ pos 0 ∷ pos 0 ∷ []
+nets = ofThree (pos 450000) (negℤ (pos 100000)) (pos 0)
 
 nets-listed : (o : ℕ → ℕ → ℕ) → listBelow 16 (added 9000 o none none none none) ≡ nets
 unfolding listBelow sumBelow unitShare wattDaysOf limitedShortfall unitLimit unitShortfall limited limit quarters available unforced committed

@@ -35,8 +35,8 @@ use Rattle.records.specs.Dues.{dueIn}
 use Rattle.promise.specs.Reckoning.{yearOf, latestArea, unitOf, latestCommitment, latestObligation, acceptedHours, sumOver, lastIndex, factsOfList}
 use Rattle.promise.specs.Reckoning.{reckonedDue, reckonedPaid, reckonedLine}
 use Rattle.promise.specs.Standing.{SameStanding}
-use Rattle.promise.specs.Figures.{year, area, unit, commitment, load, post, answer, noLines, beforeLoadsAnswers}
-use Rattle.promise.specs.TwoWays.{derated, oneWay, anotherWay, linesOfThree, lines, earlyLines, laterLines, TwoWays}
+use Rattle.promise.specs.Figures.{year, area, unit, commitment, load, post, answer, noLines, ofThree, beforeLoadsAnswers}
+use Rattle.promise.specs.TwoWays.{derated, oneWay, anotherWay, oneWayLines, earlyLines, laterLines, TwoWays}
 use Rattle.promise.proofs.Runs.{Fed, none-next, accepted-next, refused-next}
 use Rattle.promise.proofs.Example.{area₁, unit₁, unit₂, commitment₁, commitment₂, load₅, load₇, unloaded, loaded}
 use Rattle.promise.proofs.Example.{example, amountOf, added, dues-are, post-accepted, lines-are, obligations, obligations-listed}
@@ -159,7 +159,7 @@ facts-second = λ i. record {
 }
 
 abbrev nets : List ℤ
-nets = linesOfThree (pos 225000) (negℤ (pos 100000)) (pos 0)
+nets = ofThree (pos 225000) (negℤ (pos 100000)) (pos 0)
 
 nets-listed : (price : ℕ) → listBelow 16 (added price (latestObligation loaded) sh foh d last) ≡ nets
 unfolding sumBelow within leapYear monthDays isDate multiplesBelow daysBeforeYear dayOfYear dayNumber weekday firstMonday thirdMonday isHoliday
@@ -175,7 +175,7 @@ duesAt price = listBelow 16 (due (amountOf nets) price 365 (element obligations)
 abbrev unplacedAt : ℕ → Bool
 unplacedAt price = isUnplaced (amountOf nets) price 365 (element obligations)
 
-money : (duesAt 9000 ≡ lines) × (unplacedAt 9000 ≡ false) × (duesAt 100 ≡ earlyLines) × (unplacedAt 100 ≡ false)
+money : (duesAt 9000 ≡ oneWayLines) × (unplacedAt 9000 ≡ false) × (duesAt 100 ≡ earlyLines) × (unplacedAt 100 ≡ false)
 unfolding listBelow sumBelow above below priced charge ceiling charges ceilings credit left loadShare due isUnplaced split firstShares
 money = (refl, refl, refl, refl)
 
@@ -188,9 +188,9 @@ module _ (acc : List Record) (price : ℕ) (f : factsOfList acc ≡ withHour pri
   number-of : unplacedAt price ≡ false → refusalOf (asked (factsOfList acc) (Post 1)) (Post 1) ≡ 0
   number-of e = rw f (post-accepted price (latestObligation loaded) sh foh d last (nets-listed price) obligations-listed e)
 
-lines-first : listBelow 16 (reckonedLine first 0) ≡ lines
+lines-first : listBelow 16 (reckonedLine first 0) ≡ oneWayLines
 unfolding listBelow reckonedPaid line
-lines-first = lines-are first lines (λ p. pos 0) (dues-of first 9000 facts-first (money .0)) (λ p h. refl) ∙ refl
+lines-first = lines-are first oneWayLines (λ p. pos 0) (dues-of first 9000 facts-first (money .0)) (λ p h. refl) ∙ refl
 
 lines-early : listBelow 16 (reckonedLine early 0) ≡ earlyLines
 unfolding listBelow reckonedPaid line
@@ -199,9 +199,9 @@ lines-early = lines-are early earlyLines (λ p. pos 0) (dues-of early 100 facts-
 lines-second : listBelow 16 (reckonedLine second 0) ≡ laterLines
 unfolding listBelow reckonedPaid line
 lines-second =
-    lines-are second lines (amountOf earlyLines) (dues-of second 9000 facts-second (money .0)) (dues-of early 100 facts-early (money .2)) ∙ refl
+    lines-are second oneWayLines (amountOf earlyLines) (dues-of second 9000 facts-second (money .0)) (dues-of early 100 facts-early (money .2)) ∙ refl
 
-one-fed : Fed [] oneWay (beforeLoadsAnswers ++ (answer 0 noLines ∷ answer 0 noLines ∷ answer 0 noLines ∷ answer 0 lines ∷ [])) (Post 1 ∷ first)
+one-fed : Fed [] oneWay (beforeLoadsAnswers ++ (answer 0 noLines ∷ answer 0 noLines ∷ answer 0 noLines ∷ answer 0 oneWayLines ∷ [])) (Post 1 ∷ first)
 unfolding numberAt isBroken ofLength framed decoded within place loadFits deratingFits hourFits refusalOf listBelow leapYear monthDays isDate
     calendarYear isDeliveryDate deliveryDay hourIndex multiplesBelow daysBeforeYear dayOfYear dayNumber sumBelow
     yearOf latestArea unitOf acceptedHours lastIndex factsOfList

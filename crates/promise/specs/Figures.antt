@@ -58,11 +58,15 @@ noLines =
     pos 0 ∷ pos 0 ∷ pos 0 ∷ pos 0 ∷ pos 0 ∷ pos 0 ∷ pos 0 ∷ pos 0
     ∷ pos 0 ∷ pos 0 ∷ pos 0 ∷ pos 0 ∷ pos 0 ∷ pos 0 ∷ pos 0 ∷ pos 0 ∷ []
 
+-- amounts of parties 5, 6 and 7, the others having none
+abbrev pub ofThree : ℤ → ℤ → ℤ → List ℤ
+ofThree x y z =
+    pos 0 ∷ pos 0 ∷ pos 0 ∷ pos 0 ∷ x ∷ y ∷ z ∷ pos 0
+    ∷ pos 0 ∷ pos 0 ∷ pos 0 ∷ pos 0 ∷ pos 0 ∷ pos 0 ∷ pos 0 ∷ pos 0 ∷ []
+
 -- P 1 5 -955637; P 1 6 328500; P 1 7 627137
 abbrev pub firstLines : List ℤ
-firstLines =
-    pos 0 ∷ pos 0 ∷ pos 0 ∷ pos 0 ∷ negℤ (pos 955637) ∷ pos 328500 ∷ pos 627137 ∷ pos 0
-    ∷ pos 0 ∷ pos 0 ∷ pos 0 ∷ pos 0 ∷ pos 0 ∷ pos 0 ∷ pos 0 ∷ pos 0 ∷ []
+firstLines = ofThree (negℤ (pos 955637)) (pos 328500) (pos 627137)
 
 -- 01, The ledger program: the example's input up to its Loads
 abbrev pub beforeLoads : List (List ℕ)

@@ -7,7 +7,7 @@ use Prim.Native.Nat.{ℕ}
 use lib.IntN.{ℤ, pos, negℤ}
 use Rattle.promise.specs.Reckoning.{answersOf, acceptedOf}
 use Rattle.promise.specs.Standing.{SameStanding}
-use Rattle.promise.specs.Figures.{bytes, tagged, year, area, unit, commitment, load, post, answer, noLines, beforeLoads, beforeLoadsAnswers}
+use Rattle.promise.specs.Figures.{bytes, tagged, year, area, unit, commitment, load, post, answer, noLines, ofThree, beforeLoads, beforeLoadsAnswers}
 
 -- unit; month, day, hour ending; kind; derating
 abbrev pub hour : ℕ → ℕ → ℕ → ℕ → ℕ → ℕ → List ℕ
@@ -39,23 +39,18 @@ anotherWay =
     ∷ post 1
     ∷ []
 
--- the lines of parties 5, 6 and 7; the others have none
-abbrev pub linesOfThree : ℤ → ℤ → ℤ → List ℤ
-linesOfThree x y z =
-    pos 0 ∷ pos 0 ∷ pos 0 ∷ pos 0 ∷ x ∷ y ∷ z ∷ pos 0 ∷ pos 0 ∷ pos 0 ∷ pos 0 ∷ pos 0 ∷ pos 0 ∷ pos 0 ∷ pos 0 ∷ pos 0 ∷ []
-
 -- With SH 1 and D 450,000, P is 4,050,000 and S 225,000. One post at 9,000 cents per MW-day, or one at 100 and then one at 9,000.
-abbrev pub lines : List ℤ
-lines = linesOfThree (negℤ (pos 552478)) (pos 328500) (pos 223978)
+abbrev pub oneWayLines : List ℤ
+oneWayLines = ofThree (negℤ (pos 552478)) (pos 328500) (pos 223978)
 
 abbrev pub earlyLines : List ℤ
-earlyLines = linesOfThree (negℤ (pos 6139)) (pos 3650) (pos 2489)
+earlyLines = ofThree (negℤ (pos 6139)) (pos 3650) (pos 2489)
 
 abbrev pub laterLines : List ℤ
-laterLines = linesOfThree (negℤ (pos 546339)) (pos 324850) (pos 221489)
+laterLines = ofThree (negℤ (pos 546339)) (pos 324850) (pos 221489)
 
 pub record TwoWays : Type 0 where
-  pub one : answersOf [] oneWay ≡ beforeLoadsAnswers ++ (answer 0 noLines ∷ answer 0 noLines ∷ answer 0 noLines ∷ answer 0 lines ∷ [])
+  pub one : answersOf [] oneWay ≡ beforeLoadsAnswers ++ (answer 0 noLines ∷ answer 0 noLines ∷ answer 0 noLines ∷ answer 0 oneWayLines ∷ [])
   pub another : answersOf [] anotherWay
       ≡ beforeLoadsAnswers ++ (answer 0 noLines ∷ answer 0 noLines ∷ answer 10 noLines ∷ answer 0 noLines ∷ answer 0 noLines ∷ answer 0 earlyLines
       ∷ answer 0 noLines ∷ answer 0 laterLines ∷ [])
