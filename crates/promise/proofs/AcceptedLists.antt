@@ -1,6 +1,6 @@
 -- What every list of accepted records satisfies, by the rows of refusal alone.
 use mathlib.Core.Path.{_≡_, refl, sym, ap, _∙_}
-use mathlib.Core.Bool.{Bool, true, false, cond, _&&_}
+use mathlib.Core.Bool.{Bool, true, false, cond, _&&_, and-true}
 use mathlib.Core.Logic.{_⊎_, inl, inr}
 use mathlib.Core.List.{List, [], _∷_}
 use Prim.Native.Nat.{ℕ, _+_, _-_, _<_}
@@ -57,15 +57,10 @@ named-by most n k ok = go (eqb n (k + 1)) refl
 pub named-place : (most n k : ℕ) → within 1 most n ≡ true → eqb n (k + 1) ≡ true → place most n ≡ k
 named-place most n k ok q = sym (eqb-true k (place most n) (named-by most n k ok ∙ q))
 
--- a test that is joined with one that passed
-with-passed : (t : Bool) → (t && true) ≡ false → t ≡ false
-with-passed true e = e
-with-passed false e = refl
-
 -- row 5, passed by a Year: there is no year yet, so nothing is accepted
 pub before-year : (acc : List Record) (y : ℕ) → Kept acc → Accepted (asked (factsOfList acc) (Year y)) (Year y) → acc ≡ []
 unfolding factsOfList
-before-year acc y k ok = k .no-year (eqb-true (yearOf acc) 0 (not-false (eqb (yearOf acc) 0) (with-passed _ (ok .first-year))))
+before-year acc y k ok = k .no-year (eqb-true (yearOf acc) 0 (not-false (eqb (yearOf acc) 0) (rw and-true at (ok .first-year))))
 
 year-kept : (acc : List Record) (y : ℕ) → acc ≡ [] → fits yearYear y ≡ true → Kept (Year y ∷ acc)
 unfolding yearOf unitOf latestCommitment acceptedHours reckonedPaid
@@ -81,7 +76,7 @@ year-kept acc y e ok =
 module _ (acc : List Record) (k : Kept acc) where
   -- row 4, passed by a record that is no Year
   has-year : (r : Record) → (eqb (yearOf acc) 0 && true) ≡ false → yearOf acc ≡ 0 → r ∷ acc ≡ []
-  has-year r q z = absurd (eqb-false (yearOf acc) 0 (with-passed (eqb (yearOf acc) 0) q) z)
+  has-year r q z = absurd (eqb-false (yearOf acc) 0 (rw and-true at q) z)
 
   unit-kept : (r : UnitRecord) → (eqb (yearOf acc) 0 && true) ≡ false → Kept (Unit r ∷ acc)
   unfolding yearOf unitOf latestCommitment acceptedHours reckonedPaid

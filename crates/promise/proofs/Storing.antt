@@ -29,8 +29,8 @@ abbrev pub amountsOf : List Cents → List ℤ
 amountsOf cs = map (λ (c : Cents). c .0) cs
 
 -- where all places from n on give the same, a place past n may be moved back to it
-within : {B : Type 0} (f : ℕ → B) (n k : ℕ) → (n ≤ k → f k ≡ f n) → f (min k n) ≡ f k
-within f n k same = go (leb k n) refl
+moved-back : {B : Type 0} (f : ℕ → B) (n k : ℕ) → (n ≤ k → f k ≡ f n) → f (min k n) ≡ f k
+moved-back f n k same = go (leb k n) refl
   where
     go : (t : Bool) → leb k n ≡ t → f (min k n) ≡ f k
     go true e = ap f (min-eq-left (leb-true k n e))
@@ -38,10 +38,10 @@ within f n k same = go (leb k n) refl
 
 module _ {A : Type 0} (l : List A) where
   take-within : (k : ℕ) → take (min k (length l)) l ≡ take k l
-  take-within k = within (λ k. take k l) (length l) k (λ h. take-all k l h ∙ sym (take-all (length l) l (omega arith)))
+  take-within k = moved-back (λ k. take k l) (length l) k (λ h. take-all k l h ∙ sym (take-all (length l) l (omega arith)))
 
   drop-within : (k : ℕ) → drop (min k (length l)) l ≡ drop k l
-  drop-within k = within (λ k. drop k l) (length l) k (λ h. drop-of-length-le l h ∙ sym (drop-of-length-le l {i = length l} (omega arith)))
+  drop-within k = moved-back (λ k. drop k l) (length l) k (λ h. drop-of-length-le l h ∙ sym (drop-of-length-le l {i = length l} (omega arith)))
 
 -- a string between two places, each moved back to the end where it is past it
 module _ {A : Type 0} (l : List A) (from end : ℕ) {first last : ℕ} (p : first ≡ min from (length l)) (q : last ≡ min end (length l)) where
@@ -64,7 +64,7 @@ module _ {A : Type 0} where
   stored-past k l (v ∷ vs) h = rw (set-out l k v h) (stored-past (suc k) l vs (omega arith))
 
   stored-within : (k : ℕ) (l vs : List A) → storedFrom (min k (length l)) l vs ≡ storedFrom k l vs
-  stored-within k l vs = within (λ k. storedFrom k l vs) (length l) k (λ h. stored-past k l vs h ∙ sym (stored-past (length l) l vs (omega arith)))
+  stored-within k l vs = moved-back (λ k. storedFrom k l vs) (length l) k (λ h. stored-past k l vs h ∙ sym (stored-past (length l) l vs (omega arith)))
 
   stored-length : (k : ℕ) (l vs : List A) → length (storedFrom k l vs) ≡ length l
   unfolding storedFrom

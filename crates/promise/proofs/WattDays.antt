@@ -3,32 +3,30 @@ use mathlib.Core.Path.{_≡_, refl, sym, ap, _∙_}
 use mathlib.Core.Bool.{Bool, true, false, cond}
 use mathlib.Core.Logic.{_⊎_, inl, inr}
 use mathlib.Core.List.{List, []}
-use Prim.Native.Nat.{ℕ, _+_, _-_}
+use Prim.Native.Nat.{ℕ, _+_}
 use native.Mathlib.Omega.{arith}
 use lib.Dec.{eqb}
 use borrow.Author.Tests.{eqb-true, eqb-false, eq-eqb, ne-eqb}
 use Rattle.calendar.specs.Range.{within}
-use Rattle.calendar.proofs.Tests.{within-from}
 use Rattle.settlement.specs.Capacity.{unitWattDays, partOf, wattDaysOf}
 use Rattle.settlement.proofs.Sums.{sum-same}
 use Rattle.settlement.proofs.Capacities as settlement
 use Rattle.records.specs.declared.format.Record.{Record}
 use Rattle.records.specs.Dues.{wattDaysFor, partFor}
 use Rattle.records.specs.Rules.{place}
-use Rattle.records.proofs.Named.{place-below, place-in-range}
+use Rattle.records.proofs.Named.{place-below}
 use Rattle.book.specs.Books.{emptyBook}
 use Rattle.promise.specs.Reckoning.{latestCommitment, factsOfList, acceptedOf}
 use Rattle.promise.specs.Laws.{PartsAddUp}
-use Rattle.promise.proofs.AcceptedLists.{Kept}
+use Rattle.promise.proofs.AcceptedLists.{Kept, named-by}
 use Rattle.promise.proofs.Meeting.{meets-none, all-meet}
 
--- party p + 1 is the one at place p
-at-place : (n p : ℕ) → within 1 16 n ≡ true → eqb n (p + 1) ≡ eqb (place 16 n) p
-at-place n p ok = go (eqb n (p + 1)) refl
+flipped : (m n : ℕ) → eqb m n ≡ eqb n m
+flipped m n = go (eqb m n) refl
   where
-    go : (t : Bool) → eqb n (p + 1) ≡ t → t ≡ eqb (place 16 n) p
-    go true q = rw (place-in-range 16 n ok) (sym (eq-eqb (n - 1) p (omega (arith, eqb-true n (p + 1) q))))
-    go false q = rw (place-in-range 16 n ok) (sym (ne-eqb (n - 1) p (λ e. eqb-false n (p + 1) q (omega (arith, within-from 1 16 n ok, e)))))
+    go : (t : Bool) → eqb m n ≡ t → t ≡ eqb n m
+    go true q = sym (eq-eqb n m (sym (eqb-true m n q)))
+    go false q = sym (ne-eqb n m (λ e. eqb-false m n q (sym e)))
 
 module _ (acc : List Record) (k : Kept acc) (u : ℕ) where
   -- the watt-days of each commitment, and the place of its party
@@ -51,7 +49,8 @@ module _ (acc : List Record) (k : Kept acc) (u : ℕ) where
       either true false = refl
       either false true = refl
       either false false = refl
-  in-part p j (inr ok) = ap (λ (t : Bool). cond t (watt-days j) 0) (at-place (latestCommitment acc j .party) p ok)
+  in-part p j (inr ok) =
+      ap (λ (t : Bool). cond t (watt-days j) 0) (sym (named-by 16 (latestCommitment acc j .party) p ok) ∙ flipped p (party j))
 
   parts-of : wattDaysOf (partFor (factsOfList acc) u) ≡ unitWattDays 64 (wattDaysFor (factsOfList acc) u)
   unfolding wattDaysOf partFor partOf factsOfList
