@@ -2,35 +2,38 @@
 use crate::money::area_party;
 use crate::money::no_lines;
 use crate::money::post;
-use crate::units::asked;
 use crate::units::new_unit;
+use crate::units::no_hours;
 use crate::units::with_hour;
 use records::decode::decode;
 use records::decode::hour_of;
 use records::format::AreaRecord;
 use records::format::CommitmentRecord;
+use records::format::HOUR_BYTES;
 use records::format::Record;
 use records::format::UnitRecord;
-use records::places::area_named;
-use records::places::place;
-use records::places::unit_named;
+use records::indices::area_named;
+use records::indices::number_index;
+use records::indices::party_index;
+use records::indices::unit_index;
+use records::indices::unit_named;
+use records::refusal::asked_of;
 use records::refusal::hour;
 use records::refusal::refusal;
 use records::stream::end_of;
 use settlement::Cents;
 use settlement::InstalledWatts;
+use settlement::capacity::HourCounts;
+use settlement::capacity::Rating;
 ghost use mathlib.Core.Path.{_≡_};
 ghost use Rattle.book.specs.Books.{emptyBook, Sound};
-ghost use Rattle.book.specs.Entered.{entered};
+ghost use Rattle.book.specs.Entered.{noLines, answer, entered};
 ghost use Rattle.book.specs.Runs.{hoursBetween};
 
-// A unit: its record, and the figures of its accepted hours.
+// A unit: its record, and what its accepted hours come to.
 pub struct Unit {
     entry: UnitRecord,
-    // Peak hours in service and in full forced outage, and the sum of the forced deratings in watts.
-    sh: u64,
-    foh: u64,
-    d: u64,
+    hours: HourCounts,
     // The index of the last accepted hour; 0 where there is none.
     last: u64,
 }
@@ -39,18 +42,18 @@ pub struct Unit {
 pub struct Book {
     // 0 before a year is entered.
     year: u32,
-    areas: [AreaRecord; 8],
-    units: [Unit; 32],
-    commitments: [CommitmentRecord; 64],
+    areas: [AreaRecord; Book::AREAS],
+    units: [Unit; Book::UNITS],
+    commitments: [CommitmentRecord; Book::COMMITMENTS],
     // By area and then party.
-    obligations: [u32; 128],
-    posted: [Cents; 128],
+    obligations: [u32; Book::PAIRS],
+    posted: [Cents; Book::PAIRS],
 }
 
 // What a record is answered with: the number of its refusal or 0, the sixteen lines, and the book after it.
 pub struct Answer {
     pub number: u32,
-    pub lines: [Cents; 16],
+    pub lines: [Cents; Book::PARTIES],
     pub book: Book,
 }
 
@@ -69,6 +72,9 @@ impl Book {
 
     pub const COMMITMENTS: usize = 64;
 
+    // Pairs of an area and a party.
+    pub const PAIRS: usize = Book::AREAS * Book::PARTIES;
+
     // A book with nothing entered.
     pub fn new() -> Self
         ensures { λ r. ⌜ (r ≡ emptyBook) × Sound r ⌝ }
@@ -77,22 +83,22 @@ impl Book {
         let zero = Cents::zero();
         Self {
             year: 0,
-            areas: [AreaRecord { area: 0, price: 0 }; 8],
+            areas: [AreaRecord { area: 0, price: 0 }; Book::AREAS],
             units: [Unit {
                 entry: UnitRecord {
                     unit: 0,
                     area: 0,
-                    installed: nothing,
-                    e: 0,
-                    f: 0,
-                    g: 0,
-                    class: 0,
+                    rating: Rating {
+                        installed: nothing,
+                        eford: 0,
+                        eford5: 0,
+                        efordyear: 0,
+                        class: 0,
+                    },
                 },
-                sh: 0,
-                foh: 0,
-                d: 0,
+                hours: no_hours(),
                 last: 0,
-            }; 32],
+            }; Book::UNITS],
             commitments: [CommitmentRecord {
                 number: 0,
                 unit: 0,
@@ -100,9 +106,9 @@ impl Book {
                 first: 0,
                 last: 0,
                 watts: 0,
-            }; 64],
-            obligations: [0; 128],
-            posted: [zero; 128],
+            }; Book::COMMITMENTS],
+            obligations: [0; Book::PAIRS],
+            posted: [zero; Book::PAIRS],
         }
     }
 
@@ -116,71 +122,39 @@ impl Book {
         let j = unit_named(r);
         let area = self.areas[i];
         let unit = self.units[j];
-        let n = refusal(asked(self.year, area, unit), r);
+        let n = refusal(asked_of(self.year, area, unit.entry, unit.last), r);
         if n != 0 {
-            return Answer {
-                number: n,
-                lines: no_lines(),
-                book: self,
-            };
+            return without_lines(n, self);
         }
         match r {
             Record::Year(y) => {
                 self.year = y;
-                Answer {
-                    number: 0,
-                    lines: no_lines(),
-                    book: self,
-                }
+                without_lines(0, self)
             }
             Record::Area(a) => {
                 self.areas[i] = a;
-                Answer {
-                    number: 0,
-                    lines: no_lines(),
-                    book: self,
-                }
+                without_lines(0, self)
             }
             Record::Unit(u) => {
                 self.units[j] = new_unit(u);
-                Answer {
-                    number: 0,
-                    lines: no_lines(),
-                    book: self,
-                }
+                without_lines(0, self)
             }
             Record::Commitment(c) => {
-                let k = place(64, c.number);
+                let k = number_index(c.number);
                 self.commitments[k] = c;
-                Answer {
-                    number: 0,
-                    lines: no_lines(),
-                    book: self,
-                }
+                without_lines(0, self)
             }
             Record::Hour(h) => {
                 self.units[j] = with_hour(self.year, unit, h);
-                Answer {
-                    number: 0,
-                    lines: no_lines(),
-                    book: self,
-                }
+                without_lines(0, self)
             }
             Record::Load(l) => {
-                let k = area_party(i, place(16, l.party));
+                let k = area_party(i, party_index(l.party));
                 self.obligations[k] = l.obligation;
-                Answer {
-                    number: 0,
-                    lines: no_lines(),
-                    book: self,
-                }
+                without_lines(0, self)
             }
             Record::Post(_) => post(self, i),
-            Record::Unframed(_) => Answer {
-                number: 0,
-                lines: no_lines(),
-                book: self,
-            },
+            _ => without_lines(0, self),
         }
     }
 
@@ -192,13 +166,13 @@ impl Book {
     {
         let end = end_of(s, to);
         let mut at = from;
-        while at < end && 12 <= end - at {
-            let next = at + 12;
+        while at < end && HOUR_BYTES <= end - at {
+            let next = at + HOUR_BYTES;
             let h = hour_of(&s[at..next]);
-            let j = place(32, h.unit);
+            let j = unit_index(h.unit);
             let area = self.areas[0];
             let unit = self.units[j];
-            if hour(asked(self.year, area, unit), h) != 0 {
+            if hour(asked_of(self.year, area, unit.entry, unit.last), h) != 0 {
                 return Run {
                     next: at,
                     book: self,
@@ -211,6 +185,17 @@ impl Book {
             next: at,
             book: self,
         }
+    }
+}
+
+// A refusal, or 0 for a record other than a Post, with the book after it.
+pub(crate) fn without_lines(number: u32, book: Book) -> Answer
+    ensures { λ r. ⌜ r ≡ answer number noLines book ⌝ }
+{
+    Answer {
+        number,
+        lines: no_lines(),
+        book,
     }
 }
 

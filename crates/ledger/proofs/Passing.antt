@@ -9,13 +9,14 @@ use native.Mathlib.Omega.{arith}
 use lib.Dec.{eqb, ltb}
 use lib.ListN.{length, take, drop, length-drop}
 use lib.Seq.{length-take-le, take-all}
-use borrow.Author.Tests.{ne-eqb, lt-ltb, le-ltb}
+use borrow.Author.Tests.{eqb-true, ne-eqb, lt-ltb, le-ltb}
+use Rattle.records.proofs.ByKind.{chosen}
+use Rattle.records.specs.Format.{partyCount}
 use Rattle.settlement.specs.Lists.{listBelow}
 use Rattle.settlement.proofs.Tests.{both-true}
 use Rattle.records.specs.declared.format.Record.{Record}
-use Rattle.records.specs.declared.format.Record.the-variants.{Unframed, Year, Area, Unit, Commitment, Hour, Load, Post}
 use Rattle.records.specs.Decoded.{decoded}
-use Rattle.records.specs.Kinds.{ofHour}
+use Rattle.records.specs.Kinds.{tagOfRecord, ofHour}
 use Rattle.records.specs.Rules.{refusal}
 use Rattle.records.specs.declared.stream.Next.the-variants.{Whole, Broken, Partial}
 use Rattle.records.specs.Stream.{nextRecord}
@@ -25,7 +26,7 @@ use Rattle.book.specs.declared.Run.{Run}
 use Rattle.book.specs.declared.Answer.{Answer}
 use Rattle.book.specs.Books.{factsOfBook, Sound}
 use Rattle.book.specs.Entered.{noLines, linesOf, entered}
-use Rattle.book.specs.Runs.{hourBytes, isAcceptedHour, hoursOf, hoursBetween}
+use Rattle.book.specs.Runs.{hourLength, hourBytes, isAcceptedHour, hoursOf, hoursBetween}
 use Rattle.ledger.specs.declared.pass.Tally.{Tally}
 use Rattle.ledger.specs.declared.pass.Taken.{Taken}
 use Rattle.ledger.specs.declared.pass.Stop.{Stop}
@@ -46,19 +47,14 @@ counted-more r b b' k =
     let a : r .accepted + 1 + k ≡ r .accepted + suc k = omega arith in
     rw (t, a)
 
-no-lines-text : (a : ℕ) → partyLines a noLines 16 ≡ []
+no-lines-text : (a : ℕ) → partyLines a noLines partyCount ≡ []
 unfolding partyLines listBelow
 no-lines-text a = refl
 
+-- an Hour is no Post
 hour-lines : (b : Book) (r : Record) → ofHour false (λ h. true) r ≡ true → linesOf b r ≡ noLines
-hour-lines b (Unframed f) e = refl
-hour-lines b (Year y) e = refl
-hour-lines b (Area a) e = refl
-hour-lines b (Unit u) e = refl
-hour-lines b (Commitment c) e = refl
-hour-lines b (Hour h) e = refl
-hour-lines b (Load l) e = refl
-hour-lines b (Post p) e = absurd (false≢true e)
+hour-lines b r =
+    chosen (λ t. t ≡ true → linesOf b r ≡ noLines) (eqb (tagOfRecord r) 5) (λ q e. rw (eqb-true (tagOfRecord r) 5 q)) (λ e. absurd (false≢true e))
 
 module _ (b : Book) (s : List ℕ) (accepted : isAcceptedHour b s ≡ true) where
   is-hour : ofHour false (λ h. true) (decoded s) ≡ true
@@ -83,7 +79,7 @@ tried-hour r s e =
 
 module _ (size : ℕ) (s : List ℕ) where
   one-hour : (n : ℕ) (r : State) (from : ℕ) → ltb size (length (r .text) + room) ≡ false → isAcceptedHour (r .book) (hourBytes s from) ≡ true
-      → passOf (suc n) size r s from ≡ passOf n size (counted r (entered (r .book) (hourBytes s from) .book) 1) s (from + 12)
+      → passOf (suc n) size r s from ≡ passOf n size (counted r (entered (r .book) (hourBytes s from) .book) 1) s (from + hourLength)
   unfolding passOf
   one-hour n r from free e =
       rw (free, hour-next (drop from s) (is-hour (r .book) (hourBytes s from) e), tried-hour r (hourBytes s from) e)
@@ -92,12 +88,12 @@ module _ (size : ℕ) (s : List ℕ) where
   pub record HoursTaken (n : ℕ) (r : State) (from : ℕ) (run : Run) : Type 0 where
     pub hours : ℕ
     pub left : ℕ
-    pub next-is : run .next ≡ from + 12 * hours
+    pub next-is : run .next ≡ from + hourLength * hours
     pub there : run .next ≤ length s
     pub enough : length s < run .next + left
     pub same : passOf n size r s from ≡ passOf left size (counted r (run .book) hours) s (run .next)
 
-  pub hours-taken : (m n : ℕ) (r : State) (from : ℕ) → ltb size (length (r .text) + room) ≡ false → from + 12 * m ≤ length s → length s < from + n
+  pub hours-taken : (m n : ℕ) (r : State) (from : ℕ) → ltb size (length (r .text) + room) ≡ false → from + hourLength * m ≤ length s → length s < from + n
       → HoursTaken n r from (hoursOf m (r .book) s from)
   unfolding hoursOf
   hours-taken zero n r from free within enough =
@@ -116,12 +112,12 @@ module _ (size : ℕ) (s : List ℕ) where
       next = entered (r .book) (hourBytes s from) .book
 
       go : (t : Bool) → isAcceptedHour (r .book) (hourBytes s from) ≡ t
-          → ((r : State) (from : ℕ) → ltb size (length (r .text) + room) ≡ false → from + 12 * m ≤ length s → length s < from + n
+          → ((r : State) (from : ℕ) → ltb size (length (r .text) + room) ≡ false → from + hourLength * m ≤ length s → length s < from + n
           → HoursTaken n r from (hoursOf m (r .book) s from))
           → HoursTaken (suc n) r from (hoursOf (suc m) (r .book) s from)
       go true q rest =
-          let more : HoursTaken n (counted r next 1) (from + 12) (hoursOf m next s (from + 12))
-          = rest (counted r next 1) (from + 12) free (omega arith) (omega arith) in
+          let more : HoursTaken n (counted r next 1) (from + hourLength) (hoursOf m next s (from + hourLength))
+          = rest (counted r next 1) (from + hourLength) free (omega arith) (omega arith) in
           rw q
           (record {
             hours = suc (more .hours);
@@ -129,7 +125,7 @@ module _ (size : ℕ) (s : List ℕ) where
             next-is = omega (arith, more .next-is);
             there = more .there;
             enough = more .enough;
-            same = one-hour n r from free q ∙ more .same ∙ rw (counted-more r next (hoursOf m next s (from + 12) .book) (more .hours));
+            same = one-hour n r from free q ∙ more .same ∙ rw (counted-more r next (hoursOf m next s (from + hourLength) .book) (more .hours));
           })
       go false q rest =
           rw q
@@ -143,27 +139,27 @@ module _ (size : ℕ) (s : List ℕ) where
           })
 
 -- where a run of hours ends
-hours-end : (m : ℕ) (b : Book) (s : List ℕ) (from : ℕ) → (from ≤ hoursOf m b s from .next) × (hoursOf m b s from .next ≤ from + 12 * m)
+hours-end : (m : ℕ) (b : Book) (s : List ℕ) (from : ℕ) → (from ≤ hoursOf m b s from .next) × (hoursOf m b s from .next ≤ from + hourLength * m)
 unfolding hoursOf
 hours-end zero b s from = (omega arith, omega arith)
-hours-end (suc m) b s from = go (isAcceptedHour b (hourBytes s from)) refl (hours-end m (entered b (hourBytes s from) .book) s (from + 12))
+hours-end (suc m) b s from = go (isAcceptedHour b (hourBytes s from)) refl (hours-end m (entered b (hourBytes s from) .book) s (from + hourLength))
   where
     after : Run
-    after = hoursOf m (entered b (hourBytes s from) .book) s (from + 12)
+    after = hoursOf m (entered b (hourBytes s from) .book) s (from + hourLength)
 
-    go : (t : Bool) → isAcceptedHour b (hourBytes s from) ≡ t → (from + 12 ≤ after .next) × (after .next ≤ from + 12 + 12 * m)
-        → (from ≤ hoursOf (suc m) b s from .next) × (hoursOf (suc m) b s from .next ≤ from + 12 * suc m)
+    go : (t : Bool) → isAcceptedHour b (hourBytes s from) ≡ t → (from + hourLength ≤ after .next) × (after .next ≤ from + hourLength + hourLength * m)
+        → (from ≤ hoursOf (suc m) b s from .next) × (hoursOf (suc m) b s from .next ≤ from + hourLength * suc m)
     go true q (low, high) = rw q (omega arith, omega arith)
     go false q (low, high) = rw q (omega arith, omega arith)
 
 -- all hours from a place on
-all-hours : (b : Book) (s : List ℕ) (from : ℕ) → hoursBetween b s from (length s) ≡ hoursOf ((length s - from) / 12) b s from
-all-hours b s from = ap (λ (k : ℕ). hoursOf ((k - from) / 12) b s from) (min-eq-left (le-refl (length s)))
+all-hours : (b : Book) (s : List ℕ) (from : ℕ) → hoursBetween b s from (length s) ≡ hoursOf ((length s - from) / hourLength) b s from
+all-hours b s from = ap (λ (k : ℕ). hoursOf ((k - from) / hourLength) b s from) (min-eq-left (le-refl (length s)))
 
 hours-inside : (b : Book) (s : List ℕ) (from : ℕ) → from ≤ length s
     → (from ≤ hoursBetween b s from (length s) .next) × (hoursBetween b s from (length s) .next ≤ length s)
 hours-inside b s from h =
-    let (low, high) = hours-end ((length s - from) / 12) b s from in
+    let (low, high) = hours-end ((length s - from) / hourLength) b s from in
     rw (all-hours b s from) (low, omega (arith, high))
 
 pub hours-next : (b : Book) (s : List ℕ) (from : ℕ) {x : Run} → from ≤ length s → x ≡ hoursBetween b s from (length s)
@@ -192,7 +188,7 @@ module _ (t : Tally) (s : List ℕ) {a : Answer} (answered : a ≡ entered (t .b
   unfolding tried answerText
   refused-state ne put = rw (sym answered, ne-eqb (a .number) 0 ne, add-zero (t .accepted), add-one (t .tried)) (rw (put .bytes, add-one (t .tried)))
 
-  pub accepted-state : {area : ℕ} → a .number ≡ 0 → area ≡ postArea s → Put out (t .used) (partyLines area (a .lines) 16) used after
+  pub accepted-state : {area : ℕ} → a .number ≡ 0 → area ≡ postArea s → Put out (t .used) (partyLines area (a .lines) partyCount) used after
       → stateOf (record { book = a .book; tried = t .tried + 1; accepted = t .accepted + 1; used = used }) after ≡ tried (stateOf t out) s
   unfolding tried answerText
   accepted-state none area put = rw (sym answered, none, sym area, put .bytes, add-one (t .tried))
@@ -280,7 +276,7 @@ module _ (size : ℕ) (first : State) (tried₀ : ℕ) (s : List ℕ) where
         }
 
   module _ (out : List ℕ) (t : Tally) (at : ℕ) (g : Going out t at) where
-    pub full : length out < t .used + 1100 → stopped (stateOf t out) at stop.Full ≡ passed size first s
+    pub full : length out < t .used + room → stopped (stateOf t out) at stop.Full ≡ passed size first s
     unfolding passOf
     full h = go (g .left) (g .enough) (g .same)
       where
@@ -292,22 +288,22 @@ module _ (size : ℕ) (first : State) (tried₀ : ℕ) (s : List ℕ) where
         go zero e same = absurd (omega (arith, g .there))
         go (suc n) e same = rw short at same
 
-    pub counted-hours : {x : Taken} → t .used + 1100 ≤ length out → x ≡ withHours t at (hoursBetween (t .book) s at (length s)) → Sound (x .tally .book)
+    pub counted-hours : {x : Taken} → t .used + room ≤ length out → x ≡ withHours t at (hoursBetween (t .book) s at (length s)) → Sound (x .tally .book)
         → Counted out (x .tally) (x .next)
     counted-hours {x} h e sound =
         let all : x ≡ withHours t at run = e ∙ ap (withHours t at) (all-hours (t .book) s at) in
         go x all sound (taken .left) (taken .enough) (taken .same)
       where
         run : Run
-        run = hoursOf ((length s - at) / 12) (t .book) s at
+        run = hoursOf ((length s - at) / hourLength) (t .book) s at
 
         short : ltb size (length (stateOf t out .text) + room) ≡ false
         short = le-ltb size (length (stateOf t out .text) + room) (omega (arith, h, g .size-is, text-length t out (omega (arith, g .ready .2))))
 
         taken : HoursTaken size s (g .left) (stateOf t out) at run
-        taken = hours-taken size s ((length s - at) / 12) (g .left) (stateOf t out) at short (omega (arith, g .there)) (g .enough)
+        taken = hours-taken size s ((length s - at) / hourLength) (g .left) (stateOf t out) at short (omega (arith, g .there)) (g .enough)
 
-        hours : (run .next - at) / 12 ≡ taken .hours
+        hours : (run .next - at) / hourLength ≡ taken .hours
         hours = omega (arith, taken .next-is)
 
         go : (x : Taken) → x ≡ withHours t at run → Sound (x .tally .book) → (n : ℕ) → length s < run .next + n

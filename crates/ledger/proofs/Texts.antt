@@ -15,10 +15,11 @@ use borrow.Author.Tests.{ltb-true, ltb-false, lt-ltb, le-ltb, eq-eqb, ne-eqb}
 use mir.Syntax.{w64}
 use mir.Val.{Fits, SFits, toZ, ofZ}
 use mir.Facts.{toZ-ofZ}
+use Rattle.records.specs.Format.{partyCount}
 use Rattle.settlement.specs.declared.Cents.{Cents}
 use Rattle.settlement.specs.Quantities.{cents}
 use Rattle.settlement.specs.Signed.{below}
-use Rattle.ledger.specs.Printed.{digit, digitsOf, decimal, signed, partyLine, unlessZero, partyLines, Put}
+use Rattle.ledger.specs.Printed.{digit, digitsOf, decimal, signed, partyLine, unlessZero, partyLines, digitsMost, lineMost, linesMost, Put}
 
 -- a byte, and one text after another
 pub put-byte : (l : List ℕ) (at b : ℕ) → at < length l → Put l at (b ∷ []) (at + 1) (set l at b)
@@ -65,15 +66,15 @@ digits-most (suc k) n h = go (ltb n 10) refl (digits-most k (n / 10))
         let tenth : n / 10 < 10 ^ suc k = div-lt-iff-lt-mul (lit< tt) .1 (rw (pow-suc 10 (suc k)) at h) in
         rw (decimal-more n (ltb-false n 10 e), length-append) (omega (arith, fewer tenth))
 
--- a number of 64 bits is put within 20 places: it is one digit, or its tenth, which leaves a place, and one digit more
-pub number-one : (n : ℕ) {a b : List ℕ} {from m : ℕ} → n < 10 → Put a from (digit n ∷ []) m b → Put a from (decimal n) m b × (m ≤ from + 20)
+-- a number of 64 bits is put within `digitsMost` places: it is one digit, or its tenth, which leaves a place, and one digit more
+pub number-one : (n : ℕ) {a b : List ℕ} {from m : ℕ} → n < 10 → Put a from (digit n ∷ []) m b → Put a from (decimal n) m b × (m ≤ from + digitsMost)
 number-one n h p = (rw (decimal-one n h) p, omega (arith, p .ends))
 
 module _ (n : ℕ) {a b : List ℕ} {from m : ℕ} (fits : n < 2 ^ 64) (tenth : Put a from (decimal (n / 10)) m b) where
-  pub tenth-ends : m < from + 20
+  pub tenth-ends : m < from + digitsMost
   tenth-ends = omega (arith, digits-most 18 (n / 10) (lt-trans {m = 2 ^ 64 / 10 + 1} (omega arith) (lit< tt)), tenth .ends)
 
-  pub number-more : {c : List ℕ} {k : ℕ} → 10 ≤ n → Put b m (digit (n % 10) ∷ []) k c → Put a from (decimal n) k c × (k ≤ from + 20)
+  pub number-more : {c : List ℕ} {k : ℕ} → 10 ≤ n → Put b m (digit (n % 10) ∷ []) k c → Put a from (decimal n) k c × (k ≤ from + digitsMost)
   number-more h p = (rw (decimal-more n h) (put-more tenth p), omega (arith, tenth-ends, p .ends))
 
 -- a signed local, read back from its bits
@@ -135,6 +136,6 @@ module _ (a : ℕ) (lines : List Cents) where
   lines-more p {v = v} q e h r =
       rw (add-one p) (put-more q (rw (add-one p, e) at (put-read {v = v} (record { sfits = h }) (unlessZero a (p + 1)) r)))
 
-  pub lines-all : {p : ℕ} {l b : List ℕ} {at m : ℕ} → p ≤ 16 → 16 ≤ p → Put l at (partyLines a lines p) m b → m ≤ at + 66 * p
-      → Put l at (partyLines a lines 16) m b × (m ≤ at + 1056)
-  lines-all {p} h g q e = let same : p ≡ 16 = omega arith in (rw same at q, omega arith)
+  pub lines-all : {p : ℕ} {l b : List ℕ} {at m : ℕ} → p ≤ partyCount → partyCount ≤ p → Put l at (partyLines a lines p) m b → m ≤ at + lineMost * p
+      → Put l at (partyLines a lines partyCount) m b × (m ≤ at + linesMost)
+  lines-all {p} h g q e = let same : p ≡ partyCount = omega arith in (rw same at q, omega arith)

@@ -13,12 +13,13 @@ use Rattle.book.specs.declared.Book.{Book}
 use Rattle.book.specs.declared.Run.{Run}
 use Rattle.book.specs.Books.{Sound}
 use Rattle.book.specs.Entered.{entered}
+use Rattle.book.specs.Runs.{hourLength}
 use Rattle.ledger.specs.declared.pass.Tally.{Tally}
 use Rattle.ledger.specs.declared.pass.Taken.{Taken}
 use Rattle.ledger.specs.declared.pass.Pass.{Pass}
 use Rattle.ledger.specs.declared.pass.Stop.{Stop}
 use Rattle.ledger.specs.declared.pass.Stop.the-variants as stop
-use Rattle.ledger.specs.Printed.{answerText, endLine}
+use Rattle.ledger.specs.Printed.{answerText, endLine, pairMost, linesMost}
 
 -- where a run stands: the book, how many records were tried and how many accepted, and what was printed
 pub record State : Type 0 where
@@ -49,8 +50,8 @@ abbrev pub withHours : Tally → ℕ → Run → Taken
 withHours t from r = record {
   tally = record {
     book = r .book;
-    tried = t .tried + (r .next - from) / 12;
-    accepted = t .accepted + (r .next - from) / 12;
+    tried = t .tried + (r .next - from) / hourLength;
+    accepted = t .accepted + (r .next - from) / hourLength;
     used = t .used;
   };
   next = r .next;
@@ -70,7 +71,7 @@ stoppedOf p out = stopped (stateOf (p .tally) out) (p .next) (p .stop)
 
 -- the bytes that `ledger` keeps free for one answer and the last line
 abbrev pub room : ℕ
-room = 1100
+room = linesMost + pairMost
 
 -- what follows from the next record of a stream
 abbrev pub onNext : {A : Type 0} → A → A → (ℕ → A) → Next → A
@@ -110,7 +111,7 @@ Ready free t out = Sound (t .book) × (t .accepted ≤ t .tried) × (t .used + f
 abbrev pub free : Stop → ℕ
 free stop.Full = 0
 free stop.Partial = room
-free stop.Broken = 44
+free stop.Broken = pairMost
 
 -- no more was tried than the bytes that were taken
 abbrev pub Left : ℕ → ℕ → ℕ → List ℕ → Type 0

@@ -3,12 +3,13 @@
 use mathlib.Core.Path.{_≡_}
 use mathlib.Core.Bool.{cond}
 use mathlib.Core.List.{List, [], _∷_, _++_}
-use Prim.Native.Nat.{ℕ, zero, suc, _+_, _/_, _%_}
+use Prim.Native.Nat.{ℕ, zero, suc, _+_, _*_, _/_, _%_}
 use lib.IntN.{ℤ, pos, negsuc, natAbs}
 use lib.Dec.{eqb, ltb}
 use lib.ListN.{length, getD, take}
 use Rattle.settlement.specs.declared.Cents.{Cents}
 use Rattle.settlement.specs.Quantities.{cents}
+use Rattle.records.specs.Format.{partyCount}
 use Rattle.book.specs.declared.Answer.{Answer}
 
 abbrev pub digit : ℕ → ℕ
@@ -58,7 +59,34 @@ partyLines a lines (suc n) = partyLines a lines n ++ unlessZero a (suc n) (getD 
 
 -- what the n-th record tried is answered with, `a` being the area if it is a Post
 unfoldable pub answerText : ℕ → ℕ → Answer → List ℕ
-answerText n a r = cond (eqb (r .number) 0) (partyLines a (r .lines) 16) (refusedLine n (r .number))
+answerText n a r = cond (eqb (r .number) 0) (partyLines a (r .lines) partyCount) (refusedLine n (r .number))
+
+-- The most bytes of each text, from those of its parts. A number of 64 bits has at most 20 digits.
+abbrev pub digitsMost : ℕ
+digitsMost = 20
+
+-- a minus sign before it
+abbrev pub signedMost : ℕ
+signedMost = 1 + digitsMost
+
+-- a blank before either
+abbrev pub fieldMost : ℕ
+fieldMost = 1 + digitsMost
+
+abbrev pub signedFieldMost : ℕ
+signedFieldMost = 1 + signedMost
+
+-- the line of an R or an E: its letter, two numbers, its end
+abbrev pub pairMost : ℕ
+pairMost = 1 + fieldMost + fieldMost + 1
+
+-- that of a P: its letter, area and party, the amount, its end
+abbrev pub lineMost : ℕ
+lineMost = 1 + fieldMost + fieldMost + signedFieldMost + 1
+
+-- sixteen of them
+abbrev pub linesMost : ℕ
+linesMost = partyCount * lineMost
 
 -- A text was put after the first `from` bytes of a buffer: they and the text are its bytes up to `next`.
 pub record Put (before : List ℕ) (from : ℕ) (text : List ℕ) (next : ℕ) (after : List ℕ) : Type 0 where

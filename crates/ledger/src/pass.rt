@@ -1,9 +1,12 @@
 // The records of a buffer: each tried, counted, and its answer printed.
+use crate::text::LINES_MOST;
+use crate::text::PAIR_MOST;
 use crate::text::put_end;
 use crate::text::put_lines;
 use crate::text::put_refusal;
 use book::Book;
 use records::decode::decode;
+use records::format::HOUR_BYTES;
 use records::format::Record;
 use records::stream::Next;
 use records::stream::next_record;
@@ -12,7 +15,8 @@ ghost use Prim.Native.Nat.{_+_, _-_, _/_, _≤_, _<_, _^_};
 ghost use lib.ListN.{length, take};
 ghost use Rattle.book.specs.Books.{Sound};
 ghost use Rattle.book.specs.Runs.{hoursBetween};
-ghost use Rattle.ledger.specs.Passes.{postArea, stateOf, stoppedOf, tried, withHours, passed, ended, closed, Ready, free, Left};
+ghost use Rattle.ledger.specs.Printed.{linesMost};
+ghost use Rattle.ledger.specs.Passes.{room, postArea, stateOf, stoppedOf, tried, withHours, passed, ended, closed, Ready, free, Left};
 
 // Where a run stands: the first `used` bytes of its buffer are the text to be printed.
 pub(crate) struct Tally {
@@ -51,22 +55,16 @@ fn post_area(bytes: &[u8]) -> u32
 {
     let r = decode(bytes);
     match r {
-        Record::Unframed(_) => 0,
-        Record::Year(_) => 0,
-        Record::Area(_) => 0,
-        Record::Unit(_) => 0,
-        Record::Commitment(_) => 0,
-        Record::Hour(_) => 0,
-        Record::Load(_) => 0,
         Record::Post(a) => a,
+        _ => 0,
     }
 }
 
 // A string is tried: entered, counted, and its answer printed.
 fn try_record(t: Tally, bytes: &[u8], out: &mut [u8]) -> Tally
-    requires { ⌜ Ready 1056 t (now out) × (t .tried + 1 < 2 ^ 64) ⌝ }
+    requires { ⌜ Ready linesMost t (now out) × (t .tried + 1 < 2 ^ 64) ⌝ }
     ensures { λ r. ⌜ stateOf r (now (out .exit)) ≡ tried (stateOf t (now (out .entry))) (now (bytes .entry)) ⌝ }
-    ensures { λ r. ⌜ Ready 0 r (now (out .exit)) × (r .used ≤ t .used + 1056) ⌝ }
+    ensures { λ r. ⌜ Ready 0 r (now (out .exit)) × (r .used ≤ t .used + linesMost) ⌝ }
 {
     let a = t.book.enter(bytes);
     let book = a.book;
@@ -98,7 +96,7 @@ fn take_hours(t: Tally, s: &[u8], from: usize) -> Taken
 {
     let run = t.book.hours(s, from, s.len());
     let next = run.next;
-    let hours = ((next - from) / 12) as u64;
+    let hours = ((next - from) / HOUR_BYTES) as u64;
     let book = run.book;
     Taken {
         tally: Tally {
@@ -111,8 +109,8 @@ fn take_hours(t: Tally, s: &[u8], from: usize) -> Taken
     }
 }
 
-// What stays free for one more answer, sixteen lines of 66 bytes, and the last line of 44.
-const ROOM: usize = 1100;
+// What stays free for one more answer and the last line.
+const ROOM: usize = LINES_MOST + PAIR_MOST;
 
 // The records of s, until there is no room for another answer or no whole record is left.
 pub(crate) fn take_records(t: Tally, s: &[u8], out: &mut [u8]) -> Pass
@@ -162,7 +160,7 @@ pub(crate) fn take_records(t: Tally, s: &[u8], out: &mut [u8]) -> Pass
 
 // The end of the input: what is left of it is a cut record, and is tried; then comes the last line. Answers where the text ends.
 pub(crate) fn finish(t: Tally, rest: &[u8], out: &mut [u8]) -> usize
-    requires { ⌜ Ready 1100 t (now out) × (t .tried + 1 < 2 ^ 64) ⌝ }
+    requires { ⌜ Ready room t (now out) × (t .tried + 1 < 2 ^ 64) ⌝ }
     ensures { λ r. ⌜ take r (now (out .exit)) ≡ closed (ended (stateOf t (now (out .entry))) (now (rest .entry))) ⌝ }
     ensures { λ r. ⌜ r ≤ length (now (out .exit)) ⌝ }
 {

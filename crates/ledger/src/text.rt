@@ -1,9 +1,26 @@
 // What is printed, put into a buffer byte by byte.
+use book::Book;
 use settlement::Cents;
 ghost use mathlib.Core.List.{[], _∷_, _++_};
 ghost use Prim.Native.Nat.{_+_, _≤_, _<_};
 ghost use lib.ListN.{length};
-ghost use Rattle.ledger.specs.Printed.{Put, decimal, signed, field, lineEnd, refusedLine, partyLine, endLine, unlessZero, partyLines};
+ghost use Rattle.records.specs.Format.{partyCount};
+ghost use Rattle.ledger.specs.Printed.{Put, decimal, signed, field, lineEnd, refusedLine, partyLine, endLine, unlessZero, partyLines, digitsMost, signedMost, fieldMost, signedFieldMost, pairMost, lineMost, linesMost};
+
+// The most bytes of each text, from those of its parts, down to LINES_MOST; specs/Printed.antt says what the parts are.
+const DIGITS_MOST: usize = 20;
+
+const SIGNED_MOST: usize = 1 + DIGITS_MOST;
+
+const FIELD_MOST: usize = 1 + DIGITS_MOST;
+
+const SIGNED_FIELD_MOST: usize = 1 + SIGNED_MOST;
+
+pub(crate) const PAIR_MOST: usize = 1 + FIELD_MOST + FIELD_MOST + 1;
+
+const LINE_MOST: usize = 1 + FIELD_MOST + FIELD_MOST + SIGNED_FIELD_MOST + 1;
+
+pub(crate) const LINES_MOST: usize = Book::PARTIES * LINE_MOST;
 
 fn put(out: &mut [u8], at: usize, b: u8) -> usize
     requires { ⌜ at < length (now out) ⌝ }
@@ -14,19 +31,19 @@ fn put(out: &mut [u8], at: usize, b: u8) -> usize
 }
 
 fn put_number(out: &mut [u8], at: usize, n: u64) -> usize
-    requires { ⌜ at + 20 ≤ length (now out) ⌝ }
-    ensures { λ r. ⌜ Put (now (out .entry)) at (decimal n) r (now (out .exit)) × (r ≤ at + 20) ⌝ }
+    requires { ⌜ at + digitsMost ≤ length (now out) ⌝ }
+    ensures { λ r. ⌜ Put (now (out .entry)) at (decimal n) r (now (out .exit)) × (r ≤ at + digitsMost) ⌝ }
 {
     if n < 10 {
-        return put(out, at, 48 + n as u8);
+        return put(out, at, b'0' + n as u8);
     }
     let next = put_number(out, at, n / 10);
-    put(out, next, 48 + (n % 10) as u8)
+    put(out, next, b'0' + (n % 10) as u8)
 }
 
 fn put_signed(out: &mut [u8], at: usize, v: i64) -> usize
-    requires { ⌜ at + 21 ≤ length (now out) ⌝ }
-    ensures { λ r. ⌜ Put (now (out .entry)) at (signed v) r (now (out .exit)) × (r ≤ at + 21) ⌝ }
+    requires { ⌜ at + signedMost ≤ length (now out) ⌝ }
+    ensures { λ r. ⌜ Put (now (out .entry)) at (signed v) r (now (out .exit)) × (r ≤ at + signedMost) ⌝ }
 {
     if v < 0 {
         let next = put(out, at, b'-');
@@ -37,26 +54,25 @@ fn put_signed(out: &mut [u8], at: usize, v: i64) -> usize
 
 // A blank and a number.
 fn put_field(out: &mut [u8], at: usize, n: u64) -> usize
-    requires { ⌜ at + 21 ≤ length (now out) ⌝ }
-    ensures { λ r. ⌜ Put (now (out .entry)) at (field (decimal n)) r (now (out .exit)) × (r ≤ at + 21) ⌝ }
+    requires { ⌜ at + fieldMost ≤ length (now out) ⌝ }
+    ensures { λ r. ⌜ Put (now (out .entry)) at (field (decimal n)) r (now (out .exit)) × (r ≤ at + fieldMost) ⌝ }
 {
     let next = put(out, at, b' ');
     put_number(out, next, n)
 }
 
 fn put_signed_field(out: &mut [u8], at: usize, v: i64) -> usize
-    requires { ⌜ at + 22 ≤ length (now out) ⌝ }
-    ensures { λ r. ⌜ Put (now (out .entry)) at (field (signed v)) r (now (out .exit)) × (r ≤ at + 22) ⌝ }
+    requires { ⌜ at + signedFieldMost ≤ length (now out) ⌝ }
+    ensures { λ r. ⌜ Put (now (out .entry)) at (field (signed v)) r (now (out .exit)) × (r ≤ at + signedFieldMost) ⌝ }
 {
     let next = put(out, at, b' ');
     put_signed(out, next, v)
 }
 
-// Each kind of line has 1 byte for its letter, 21 for each number, 1 more for a sign, and 1 for its end.
 fn put_two(out: &mut [u8], at: usize, letter: u8, n: u64, k: u64) -> usize
-    requires { ⌜ at + 44 ≤ length (now out) ⌝ }
+    requires { ⌜ at + pairMost ≤ length (now out) ⌝ }
     ensures { λ r. ⌜ Put (now (out .entry)) at (letter ∷ [] ++ field (decimal n) ++ field (decimal k) ++ lineEnd) r (now (out .exit)) ⌝ }
-    ensures { λ r. ⌜ r ≤ at + 44 ⌝ }
+    ensures { λ r. ⌜ r ≤ at + pairMost ⌝ }
 {
     let first = put(out, at, letter);
     let second = put_field(out, first, n);
@@ -65,22 +81,22 @@ fn put_two(out: &mut [u8], at: usize, letter: u8, n: u64, k: u64) -> usize
 }
 
 pub(crate) fn put_refusal(out: &mut [u8], at: usize, n: u64, c: u32) -> usize
-    requires { ⌜ at + 44 ≤ length (now out) ⌝ }
-    ensures { λ r. ⌜ Put (now (out .entry)) at (refusedLine n c) r (now (out .exit)) × (r ≤ at + 44) ⌝ }
+    requires { ⌜ at + pairMost ≤ length (now out) ⌝ }
+    ensures { λ r. ⌜ Put (now (out .entry)) at (refusedLine n c) r (now (out .exit)) × (r ≤ at + pairMost) ⌝ }
 {
     put_two(out, at, b'R', n, c as u64)
 }
 
 pub(crate) fn put_end(out: &mut [u8], at: usize, n: u64, k: u64) -> usize
-    requires { ⌜ at + 44 ≤ length (now out) ⌝ }
-    ensures { λ r. ⌜ Put (now (out .entry)) at (endLine n k) r (now (out .exit)) × (r ≤ at + 44) ⌝ }
+    requires { ⌜ at + pairMost ≤ length (now out) ⌝ }
+    ensures { λ r. ⌜ Put (now (out .entry)) at (endLine n k) r (now (out .exit)) × (r ≤ at + pairMost) ⌝ }
 {
     put_two(out, at, b'E', n, k)
 }
 
 fn put_line(out: &mut [u8], at: usize, a: u32, p: usize, v: i64) -> usize
-    requires { ⌜ at + 66 ≤ length (now out) ⌝ }
-    ensures { λ r. ⌜ Put (now (out .entry)) at (partyLine a p v) r (now (out .exit)) × (r ≤ at + 66) ⌝ }
+    requires { ⌜ at + lineMost ≤ length (now out) ⌝ }
+    ensures { λ r. ⌜ Put (now (out .entry)) at (partyLine a p v) r (now (out .exit)) × (r ≤ at + lineMost) ⌝ }
 {
     let area = put(out, at, b'P');
     let party = put_field(out, area, a as u64);
@@ -90,8 +106,8 @@ fn put_line(out: &mut [u8], at: usize, a: u32, p: usize, v: i64) -> usize
 }
 
 fn put_unless_zero(out: &mut [u8], at: usize, a: u32, p: usize, v: i64) -> usize
-    requires { ⌜ at + 66 ≤ length (now out) ⌝ }
-    ensures { λ r. ⌜ Put (now (out .entry)) at (unlessZero a p v) r (now (out .exit)) × (r ≤ at + 66) ⌝ }
+    requires { ⌜ at + lineMost ≤ length (now out) ⌝ }
+    ensures { λ r. ⌜ Put (now (out .entry)) at (unlessZero a p v) r (now (out .exit)) × (r ≤ at + lineMost) ⌝ }
 {
     if v == 0 {
         return at;
@@ -100,13 +116,13 @@ fn put_unless_zero(out: &mut [u8], at: usize, a: u32, p: usize, v: i64) -> usize
 }
 
 // The sixteen lines of a post of area a.
-pub(crate) fn put_lines(out: &mut [u8], at: usize, a: u32, lines: [Cents; 16]) -> usize
-    requires { ⌜ at + 1056 ≤ length (now out) ⌝ }
-    ensures { λ r. ⌜ Put (now (out .entry)) at (partyLines a lines 16) r (now (out .exit)) × (r ≤ at + 1056) ⌝ }
+pub(crate) fn put_lines(out: &mut [u8], at: usize, a: u32, lines: [Cents; Book::PARTIES]) -> usize
+    requires { ⌜ at + linesMost ≤ length (now out) ⌝ }
+    ensures { λ r. ⌜ Put (now (out .entry)) at (partyLines a lines partyCount) r (now (out .exit)) × (r ≤ at + linesMost) ⌝ }
 {
     let mut next = at;
     let mut p = 0;
-    while p < 16 {
+    while p < Book::PARTIES {
         let line = lines[p];
         p = p + 1;
         let end = put_unless_zero(out, next, a, p, line.amount());

@@ -1,33 +1,41 @@
 -- What every list of accepted records satisfies, by the rows of refusal alone.
-use mathlib.Core.Path.{_≡_, refl, sym, ap, _∙_}
-use mathlib.Core.Bool.{Bool, true, false, cond, _&&_, and-true}
+use mathlib.Core.Path.{_≡_, refl, sym, _∙_}
+use mathlib.Core.Bool.{Bool, true, false, cond, and-true}
 use mathlib.Core.Logic.{_⊎_, inl, inr}
 use mathlib.Core.List.{List, [], _∷_}
 use Prim.Native.Nat.{ℕ, _+_, _-_, _<_}
 use native.Mathlib.Omega.{arith}
-use lib.IntN.{pos}
+use lib.IntN.{ℤ, pos}
 use lib.Dec.{eqb}
 use borrow.Author.Tests.{ltb-true, leb-false, eqb-true, eqb-false, eq-eqb, ne-eqb, not-false}
 use Rattle.calendar.specs.Range.{within}
 use Rattle.calendar.proofs.Tests.{within-from}
+use Rattle.settlement.specs.Lists.{element}
 use Rattle.settlement.specs.Signed.{sumBelowℤ}
-use Rattle.settlement.proofs.Tests.{both-true}
 use Rattle.settlement.proofs.Balance.{dues-balance}
 use Rattle.records.specs.declared.format.UnitRecord.{UnitRecord}
 use Rattle.records.specs.declared.format.CommitmentRecord.{CommitmentRecord}
 use Rattle.records.specs.declared.format.HourRecord.{HourRecord}
 use Rattle.records.specs.declared.format.Record.{Record}
-use Rattle.records.specs.declared.format.Record.the-variants.{Unframed, Year, Area, Unit, Commitment, Hour, Load, Post}
-use Rattle.records.specs.Format.{fits, yearYear, commitmentNumber, commitmentUnit, commitmentParty, hourUnit}
-use Rattle.records.specs.Refusal.{commitmentFits, hourFits}
+use Rattle.records.specs.Format.{areaCount, unitCount, partyCount, yearFormat, unitFormat, commitmentFormat, hourFormat, postFormat}
+use Rattle.records.specs.Kinds.{numbersOf, isOf, unitFrom, commitmentFrom, hourFrom}
 use Rattle.records.specs.Hours.{hourIndex}
-use Rattle.records.specs.Facts.{isEntered}
 use Rattle.records.specs.Dues.{dueIn, unplacedIn}
-use Rattle.records.specs.Rules.{place, asked}
-use Rattle.records.proofs.Named.{place-in-range}
+use Rattle.records.specs.Rules.{index, areaIndex, unitIndex, asked}
+use Rattle.records.proofs.Named.{index-in-range, named-index}
+use Rattle.records.proofs.OneKind.{is-made}
 use Rattle.records.proofs.AcceptedRows.{Accepted}
 use Rattle.promise.specs.Reckoning.{yearOf, unitOf, latestCommitment, acceptedHours, lastIndex, factsOfList, reckonedDue, reckonedPaid}
 use Rattle.promise.proofs.Falling.{Falling}
+use Rattle.records.proofs.ByKind.{chosen, by-key, by-key-each, as-made, fit}
+
+-- a commitment that is entered has one of the sixteen parties
+abbrev pub PartyKnown : CommitmentRecord → Type 0
+PartyKnown c = (c .unit ≡ 0) ⊎ (within 1 partyCount (c .party) ≡ true)
+
+-- amounts of the sixteen parties add up to 0
+abbrev Balanced : (ℕ → ℤ) → Type 0
+Balanced f = sumBelowℤ partyCount f ≡ pos 0
 
 pub record Kept (acc : List Record) : Type 0 where
   -- nothing is accepted before a year
@@ -36,123 +44,86 @@ pub record Kept (acc : List Record) : Type 0 where
   pub no-hours : (u : ℕ) → unitOf acc u .unit ≡ 0 → acceptedHours acc u ≡ []
   -- each hour of a unit is later than the one before it
   pub falling : (u : ℕ) → Falling (yearOf acc) (acceptedHours acc u)
-  -- a commitment that is entered has one of the sixteen parties
-  pub parties : (j : ℕ) → (latestCommitment acc j .unit ≡ 0) ⊎ (within 1 16 (latestCommitment acc j .party) ≡ true)
-  -- an area's lines so far add up to 0
-  pub balance : (a : ℕ) → sumBelowℤ 16 (reckonedPaid acc a) ≡ pos 0
+  pub parties : (j : ℕ) → PartyKnown (latestCommitment acc j)
+  -- an area's lines so far
+  pub balance : (a : ℕ) → Balanced (reckonedPaid acc a)
 
 pub kept-none : Kept []
 unfolding yearOf latestCommitment acceptedHours reckonedPaid sumBelowℤ
 kept-none = record { no-year = λ e. refl; no-hours = λ u e. refl; falling = λ u. tt; parties = λ j. inl refl; balance = λ a. refl }
 
--- place k is that of number n if n is k + 1
-pub named-by : (most n k : ℕ) → within 1 most n ≡ true → eqb k (place most n) ≡ eqb n (k + 1)
-named-by most n k ok = go (eqb n (k + 1)) refl
-  where
-    go : (t : Bool) → eqb n (k + 1) ≡ t → eqb k (place most n) ≡ t
-    go true q = rw (place-in-range most n ok) (eq-eqb k (n - 1) (omega (arith, eqb-true n (k + 1) q)))
-    go false q =
-        rw (place-in-range most n ok) (ne-eqb k (n - 1) (λ e. eqb-false n (k + 1) q (omega (arith, within-from 1 most n ok, e))))
+-- the list with an accepted record more
+module _ (acc : List Record) (k : Kept acc) (r : Record) (ok : Accepted (asked (factsOfList acc) r) r) where
+  -- row 5, passed by a Year: there is no year yet, so nothing is accepted
+  pub before-year : isOf yearFormat r ≡ true → acc ≡ []
+  unfolding factsOfList
+  before-year q = k .no-year (eqb-true (yearOf acc) 0 (not-false _ (rw (q, and-true) at (ok .first-year))))
 
-pub named-place : (most n k : ℕ) → within 1 most n ≡ true → eqb n (k + 1) ≡ true → place most n ≡ k
-named-place most n k ok q = sym (eqb-true k (place most n) (named-by most n k ok ∙ q))
-
--- row 5, passed by a Year: there is no year yet, so nothing is accepted
-pub before-year : (acc : List Record) (y : ℕ) → Kept acc → Accepted (asked (factsOfList acc) (Year y)) (Year y) → acc ≡ []
-unfolding factsOfList
-before-year acc y k ok = k .no-year (eqb-true (yearOf acc) 0 (not-false (eqb (yearOf acc) 0) (rw and-true at (ok .first-year))))
-
-year-kept : (acc : List Record) (y : ℕ) → acc ≡ [] → fits yearYear y ≡ true → Kept (Year y ∷ acc)
-unfolding yearOf unitOf latestCommitment acceptedHours reckonedPaid
-year-kept acc y e ok =
-    rw e (record {
-      no-year = λ z. absurd (omega (arith, within-from (yearYear .least) (yearYear .most) y ok, z));
-      no-hours = kept-none .no-hours;
-      falling = λ u. tt;
-      parties = kept-none .parties;
-      balance = kept-none .balance;
-    })
-
-module _ (acc : List Record) (k : Kept acc) where
   -- row 4, passed by a record that is no Year
-  has-year : (r : Record) → (eqb (yearOf acc) 0 && true) ≡ false → yearOf acc ≡ 0 → r ∷ acc ≡ []
-  has-year r q z = absurd (eqb-false (yearOf acc) 0 (rw and-true at q) z)
-
-  unit-kept : (r : UnitRecord) → (eqb (yearOf acc) 0 && true) ≡ false → Kept (Unit r ∷ acc)
-  unfolding yearOf unitOf latestCommitment acceptedHours reckonedPaid
-  unit-kept r q =
-      record { no-year = has-year (Unit r) q; no-hours = λ u z. go u (eqb (r .unit) (u + 1)) refl z; falling = k .falling; parties = k .parties; balance = k .balance }
+  year-known : yearOf (r ∷ acc) ≡ 0 → r ∷ acc ≡ []
+  unfolding yearOf factsOfList
+  year-known = go (isOf yearFormat r) refl
     where
-      go : (u : ℕ) (t : Bool) → eqb (r .unit) (u + 1) ≡ t → cond t r (unitOf acc u) .unit ≡ 0 → acceptedHours acc u ≡ []
-      go u true e z = absurd (omega (arith, eqb-true (r .unit) (u + 1) e, z))
-      go u false e z = k .no-hours u z
+      go : (t : Bool) → isOf yearFormat r ≡ t → cond t (element (numbersOf r) 0) (yearOf acc) ≡ 0 → r ∷ acc ≡ []
+      go true q z = absurd (omega (arith, within-from _ _ _ (fit ok yearFormat tt q .0), z))
+      go false q z = absurd (eqb-false (yearOf acc) 0 (rw (q, and-true) at (ok .has-year)) z)
 
-  -- row 6, passed by a Commitment: its party is one of the sixteen
-  commitment-kept : (y : ℕ) (c : CommitmentRecord) → (eqb (yearOf acc) 0 && true) ≡ false → commitmentFits y c ≡ true → Kept (Commitment c ∷ acc)
-  unfolding yearOf unitOf latestCommitment acceptedHours reckonedPaid commitmentFits
-  commitment-kept y c q fit =
-      record {
-        no-year = has-year (Commitment c) q;
-        no-hours = k .no-hours;
-        falling = k .falling;
-        parties = λ j. go j (eqb (c .number) (j + 1)) refl;
-        balance = k .balance;
-      }
-    where
-      party : within 1 16 (c .party) ≡ true
-      party =
-          let others = both-true {a = fits commitmentUnit (c .unit)} (both-true {a = fits commitmentNumber (c .number)} fit .1) .1 in
-          both-true {a = fits commitmentParty (c .party)} others .0
+  -- an Hour of unit u: by rows 7 and 10 the unit is entered, and the hour is later than its last
+  module _ (q : isOf hourFormat r ≡ true) (u : ℕ) (e : eqb (hourFrom (numbersOf r) .unit) (u + 1) ≡ true) where
+    abbrev hour : HourRecord
+    hour = hourFrom (numbersOf r)
 
-      go : (j : ℕ) (t : Bool) → eqb (c .number) (j + 1) ≡ t
-          → (latestCommitment (Commitment c ∷ acc) j .unit ≡ 0) ⊎ (within 1 16 (latestCommitment (Commitment c ∷ acc) j .party) ≡ true)
-      go j true q = rw q (inr party)
-      go j false q = rw q (k .parties j)
+    unit-named : unitIndex (hour .unit) ≡ u
+    unit-named = named-index unitCount _ u (fit ok hourFormat tt q .0) e
 
-  -- rows 7 and 10, passed by an Hour: its unit is entered, and it is later than the unit's last
-  hour-kept : (h : HourRecord) → (eqb (yearOf acc) 0 && true) ≡ false → within 1 32 (h .unit) ≡ true
-      → isEntered (unitOf acc (place 32 (h .unit)) .unit) ≡ true
-      → lastIndex (yearOf acc) (acceptedHours acc (place 32 (h .unit))) < hourIndex (yearOf acc) h → Kept (Hour h ∷ acc)
-  unfolding yearOf unitOf latestCommitment acceptedHours reckonedPaid
-  hour-kept h q fits entered later =
-      record {
-        no-year = has-year (Hour h) q;
-        no-hours = λ u z. none u (eqb (h .unit) (u + 1)) refl z;
-        falling = λ u. falls u (eqb (h .unit) (u + 1)) refl;
-        parties = k .parties;
-        balance = k .balance;
-      }
-    where
-      none : (u : ℕ) (t : Bool) → eqb (h .unit) (u + 1) ≡ t → unitOf acc u .unit ≡ 0 → cond t (h ∷ acceptedHours acc u) (acceptedHours acc u) ≡ []
-      none u true e z =
-          let is : unitOf acc (place 32 (h .unit)) .unit ≡ 0 = ap (λ (j : ℕ). unitOf acc j .unit) (named-place 32 (h .unit) u fits e) ∙ z in
-          absurd (omega (arith, ltb-true 0 (unitOf acc (place 32 (h .unit)) .unit) entered, is))
-      none u false e z = k .no-hours u z
+    unit-entered : unitOf acc u .unit ≡ 0 → ⊥
+    unfolding factsOfList
+    unit-entered z =
+        let none : unitOf acc (unitIndex (hour .unit)) .unit ≡ 0 = rw unit-named z in
+        omega (arith, ltb-true 0 (unitOf acc (unitIndex (hour .unit)) .unit) (not-false _ (as-made (factsOfList acc) r ok hourFormat tt q .entered)))
 
-      falls : (u : ℕ) (t : Bool) → eqb (h .unit) (u + 1) ≡ t → Falling (yearOf acc) (cond t (h ∷ acceptedHours acc u) (acceptedHours acc u))
-      falls u true e = (rw (sym (named-place 32 (h .unit) u fits e)) later, k .falling u)
-      falls u false e = k .falling u
+    later : lastIndex (yearOf acc) (acceptedHours acc u) < hourIndex (yearOf acc) hour
+    unfolding factsOfList
+    later = rw (sym unit-named) (leb-false _ _ (as-made (factsOfList acc) r ok hourFormat tt q .later))
+
+  -- a unit that is not entered was not before
+  entered-yet : (u : ℕ) → unitOf (r ∷ acc) u .unit ≡ 0 → unitOf acc u .unit ≡ 0
+  unfolding unitOf
+  entered-yet u =
+      by-key (λ (x : UnitRecord). x .unit ≡ 0 → unitOf acc u .unit ≡ 0) (isOf unitFormat r) (eqb (unitFrom (numbersOf r) .unit) (u + 1))
+      (λ q e z. absurd (omega (arith, eqb-true (unitFrom (numbersOf r) .unit) (u + 1) e))) (λ z. z)
+
+  -- row 7, passed by an Hour
+  hours-known : (u : ℕ) → unitOf acc u .unit ≡ 0 → acceptedHours (r ∷ acc) u ≡ []
+  unfolding acceptedHours
+  hours-known u z =
+      by-key (λ hs. hs ≡ []) (isOf hourFormat r) (eqb (hourFrom (numbersOf r) .unit) (u + 1)) (λ q e. absurd (unit-entered q u e z)) (k .no-hours u z)
+
+  -- row 10, passed by an Hour; a Year comes before all hours
+  hours-fall : (u : ℕ) → Falling (yearOf (r ∷ acc)) (acceptedHours (r ∷ acc) u)
+  unfolding yearOf acceptedHours
+  hours-fall u =
+      chosen (λ y. Falling y (acceptedHours (r ∷ acc) u)) (isOf yearFormat r) (λ q. rw (is-made yearFormat r tt q, before-year q) tt)
+      (by-key (Falling (yearOf acc)) (isOf hourFormat r) (eqb (hourFrom (numbersOf r) .unit) (u + 1)) (λ q e. (later q u e, k .falling u)) (k .falling u))
+
+  -- row 6, passed by a Commitment
+  parties-known : (j : ℕ) → PartyKnown (latestCommitment (r ∷ acc) j)
+  unfolding latestCommitment
+  parties-known j =
+      by-key PartyKnown (isOf commitmentFormat r) (eqb (commitmentFrom (numbersOf r) .number) (j + 1)) (λ q e. inr (fit ok commitmentFormat tt q .1 .1 .0))
+      (k .parties j)
 
   -- row 11, passed by a Post: the dues add up to 0
-  post-kept : (n : ℕ) → (eqb (yearOf acc) 0 && true) ≡ false → within 1 8 n ≡ true → unplacedIn (factsOfList acc) (place 8 n) ≡ false → Kept (Post n ∷ acc)
-  unfolding yearOf unitOf latestCommitment acceptedHours reckonedPaid reckonedDue dueIn unplacedIn
-  post-kept n q fits placed =
-      record { no-year = has-year (Post n) q; no-hours = k .no-hours; falling = k .falling; parties = k .parties; balance = λ a. go a (eqb n (a + 1)) refl }
-    where
-      go : (a : ℕ) (t : Bool) → eqb n (a + 1) ≡ t → sumBelowℤ 16 (λ p. cond t (reckonedDue acc a p) (reckonedPaid acc a p)) ≡ pos 0
-      go a true e = dues-balance _ _ _ _ (rw (sym (named-place 8 n a fits e)) placed)
-      go a false e = k .balance a
+  dues-balanced : isOf postFormat r ≡ true → (a : ℕ) → eqb (element (numbersOf r) 0) (a + 1) ≡ true → Balanced (reckonedDue acc a)
+  unfolding reckonedDue dueIn unplacedIn
+  dues-balanced q a e =
+      let named : areaIndex (element (numbersOf r) 0) ≡ a = named-index areaCount _ a (fit ok postFormat tt q .0) e in
+      dues-balance _ _ _ _ (rw named at (as-made (factsOfList acc) r ok postFormat tt q .placed))
 
-  -- the list with an accepted record more
-  pub kept-more : (r : Record) → Accepted (asked (factsOfList acc) r) r → Kept (r ∷ acc)
-  unfolding factsOfList yearOf unitOf latestCommitment acceptedHours reckonedPaid hourFits
-  kept-more (Unframed f) ok =
-      record { no-year = has-year (Unframed f) (ok .has-year); no-hours = k .no-hours; falling = k .falling; parties = k .parties; balance = k .balance }
-  kept-more (Year y) ok = year-kept acc y (before-year acc y k ok) (ok .in-range)
-  kept-more (Area r) ok = record { no-year = has-year (Area r) (ok .has-year); no-hours = k .no-hours; falling = k .falling; parties = k .parties; balance = k .balance }
-  kept-more (Unit r) ok = unit-kept r (ok .has-year)
-  kept-more (Commitment r) ok = commitment-kept (yearOf acc) r (ok .has-year) (ok .in-range)
-  kept-more (Hour h) ok =
-      hour-kept h (ok .has-year) (both-true {a = fits hourUnit (h .unit)} (ok .in-range) .0) (not-false _ (ok .entered)) (leb-false _ _ (ok .later))
-  kept-more (Load r) ok = record { no-year = has-year (Load r) (ok .has-year); no-hours = k .no-hours; falling = k .falling; parties = k .parties; balance = k .balance }
-  kept-more (Post n) ok = post-kept n (ok .has-year) (ok .in-range) (ok .placed)
+  lines-balanced : (a : ℕ) → Balanced (reckonedPaid (r ∷ acc) a)
+  unfolding reckonedPaid
+  lines-balanced a = by-key-each Balanced (isOf postFormat r) (eqb (element (numbersOf r) 0) (a + 1)) (λ q e. dues-balanced q a e) (k .balance a)
+
+  pub kept-more : Kept (r ∷ acc)
+  kept-more =
+      record { no-year = year-known; no-hours = λ u z. hours-known u (entered-yet u z); falling = hours-fall; parties = parties-known; balance = lines-balanced }

@@ -13,8 +13,8 @@ use Rattle.records.specs.Format.{numberAt}
 use Rattle.records.specs.declared.format.Record.{Record}
 use Rattle.records.specs.declared.format.Record.the-variants.{Year, Area, Unit, Commitment, Load, Post}
 use Rattle.records.specs.Decoded.{isBroken, ofLength, framed, decoded}
-use Rattle.records.specs.Refusal.{areaFits, unitFits, commitmentFits, loadFits, refusalOf}
-use Rattle.records.specs.Rules.{place}
+use Rattle.records.specs.Refusal.{daysFit, numbersFit, inRange, refusalOf}
+use Rattle.records.specs.Rules.{index}
 use Rattle.promise.specs.Reckoning.{yearOf, latestArea, unitOf, latestCommitment, latestObligation, acceptedHours, sumOver, lastIndex, factsOfList}
 use Rattle.promise.specs.Reckoning.{Answered}
 use Rattle.promise.specs.Figures.{year, area, unit, commitment, load, post, settled, figureGiven}
@@ -32,7 +32,7 @@ after₄ = Unit unit₂ ∷ Unit unit₁ ∷ after₂
 
 pub before-loads-run : (ss : List (List ℕ)) {rest : List Answered} {after : List Record} → Fed unloaded ss rest after
     → Fed [] (beforeLoads ++ ss) (beforeLoadsAnswers ++ rest) after
-unfolding numberAt isBroken ofLength framed decoded within place leapYear deliveryDays areaFits unitFits commitmentFits refusalOf listBelow
+unfolding numberAt isBroken ofLength framed decoded within index leapYear deliveryDays daysFit numbersFit inRange refusalOf listBelow
     yearOf latestArea unitOf latestCommitment latestObligation acceptedHours sumOver lastIndex factsOfList
 before-loads-run ss more =
     accepted-next (year 2010) (Year 2010) [] _ refl refl refl
@@ -43,7 +43,7 @@ before-loads-run ss more =
     (accepted-next (commitment 2 2 6 0 364 1000000) (Commitment commitment₂) (Commitment commitment₁ ∷ after₄) ss refl refl refl more)))))
 
 reckoned-figures : EachGiven figureGiven reckonedRows
-unfolding numberAt isBroken ofLength framed decoded within place loadFits refusalOf listBelow yearOf latestArea factsOfList
+unfolding numberAt isBroken ofLength framed decoded within index numbersFit inRange refusalOf listBelow yearOf latestArea factsOfList
 reckoned-figures = (
   before-loads-run _
       (accepted-next (load 1 5 500000) (Load load₅) unloaded _ refl refl refl

@@ -1,7 +1,7 @@
 -- The reckoning's lines add up to what it calls paid.
 use mathlib.Core.Path.{refl, sym, _∙_}
 use Prim.Native.Nat.{_+_}
-use lib.IntN.{_+ℤ_, _-ℤ_, +ℤ-comm, -ℤ-+ℤ-cancel}
+use lib.IntN.{_-ℤ_, +ℤ-comm, -ℤ-+ℤ-cancel}
 use borrow.Author.Tests.{eq-eqb}
 use Rattle.settlement.specs.Money.{line}
 use Rattle.promise.specs.Reckoning.{reckonedDue, reckonedPaid, reckonedLine}

@@ -7,6 +7,7 @@ use Prim.Native.Nat.{ℕ, _<_}
 use lib.IntN.{pos, _+ℤ_, +ℤ-idl, +ℤ-idr, +ℤ-assoc}
 use Rattle.settlement.specs.Signed.{sumBelowℤ}
 use Rattle.records.specs.declared.format.Record.{Record}
+use Rattle.records.specs.Format.{partyCount}
 use Rattle.book.specs.declared.Book.{Book}
 use Rattle.book.specs.Books.{emptyBook}
 use Rattle.book.specs.Entered.{entered}
@@ -28,7 +29,7 @@ same-numbers b acc m (s ∷ ss) =
     rw (number-met b acc m s, same-numbers (entered b s .book) (acceptedWith acc s) (meets-next b acc m s) ss)
 
 -- the lines so far and those of the strings to come are what is paid in the end
-total-paid : (b : Book) (acc : List Record) → Meets b acc → (ss : List (List ℕ)) (a p : ℕ) → p < 16
+total-paid : (b : Book) (acc : List Record) → Meets b acc → (ss : List (List ℕ)) (a p : ℕ) → p < partyCount
     → reckonedPaid acc a p +ℤ total a p (run b ss) ≡ reckonedPaid (acceptedOf acc ss) a p
 unfolding run total acceptedOf
 total-paid b acc m [] a p h = +ℤ-idr (reckonedPaid acc a p)
@@ -45,7 +46,7 @@ ended-due b acc m (s ∷ []) a p q = paid-due b acc m s a p (posted-by b acc m s
 ended-due b acc m (s ∷ t ∷ ss) a p q = ended-due (entered b s .book) (acceptedWith acc s) (meets-next b acc m s) (t ∷ ss) a p q
 
 -- totals
-totals-due : (ss : List (List ℕ)) (a p : ℕ) → p < 16 → endsInPost a (fromEmpty ss) ≡ true
+totals-due : (ss : List (List ℕ)) (a p : ℕ) → p < partyCount → endsInPost a (fromEmpty ss) ≡ true
     → total a p (fromEmpty ss) ≡ reckonedDue (acceptedOf [] ss) a p
 unfolding reckonedPaid
 totals-due ss a p h q =
@@ -53,18 +54,18 @@ totals-due ss a p h q =
 
 -- balanced
 each-balanced : (b : Book) (acc : List Record) → Meets b acc → (ss : List (List ℕ)) (a : ℕ) (e : Entry) → List·Memᴰ e (run b ss) → isPost a e ≡ true
-    → sumBelowℤ 16 (lineOf e) ≡ pos 0
+    → sumBelowℤ partyCount (lineOf e) ≡ pos 0
 unfolding run
 each-balanced b acc m [] a e i q = absurd (List·Memᴰ·not-nil i)
 each-balanced b acc m (s ∷ ss) a e i q = go (List·Memᴰ·cases-cons i) (λ j. each-balanced (entered b s .book) (acceptedWith acc s) (meets-next b acc m s) ss a e j q)
   where
-    go : (e ≡ record { string = s; answer = entered b s }) ⊎ List·Memᴰ e (run (entered b s .book) ss) → (List·Memᴰ e (run (entered b s .book) ss) → sumBelowℤ 16 (lineOf e) ≡ pos 0)
-        → sumBelowℤ 16 (lineOf e) ≡ pos 0
+    go : (e ≡ record { string = s; answer = entered b s }) ⊎ List·Memᴰ e (run (entered b s .book) ss) → (List·Memᴰ e (run (entered b s .book) ss) → sumBelowℤ partyCount (lineOf e) ≡ pos 0)
+        → sumBelowℤ partyCount (lineOf e) ≡ pos 0
     go (inl x) later = rw x (lines-balance b acc m s a (rw x at q))
     go (inr j) later = later j
 
 -- order
-totals-same : (ss ts : List (List ℕ)) (a p : ℕ) → p < 16 → endsInPost a (fromEmpty ss) ≡ true → endsInPost a (fromEmpty ts) ≡ true
+totals-same : (ss ts : List (List ℕ)) (a p : ℕ) → p < partyCount → endsInPost a (fromEmpty ss) ≡ true → endsInPost a (fromEmpty ts) ≡ true
     → SameStanding (acceptedOf [] ss) (acceptedOf [] ts) → total a p (fromEmpty ss) ≡ total a p (fromEmpty ts)
 totals-same ss ts a p h q r same =
     let kept : (us : List (List ℕ)) → Kept (acceptedOf [] us) = λ us. all-meet emptyBook [] meets-none us .kept in

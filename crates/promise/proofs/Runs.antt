@@ -7,6 +7,7 @@ use lib.IntN.{ℤ, pos}
 use lib.Dec.{eqb}
 use Rattle.settlement.specs.Lists.{listBelow}
 use Rattle.records.specs.declared.format.Record.{Record}
+use Rattle.records.specs.Format.{partyCount}
 use Rattle.records.specs.Decoded.{decoded}
 use Rattle.records.specs.Kinds.{ofPost}
 use Rattle.records.specs.Refusal.{refusalOf}
@@ -40,7 +41,7 @@ none-next acc = record { answers-are = refl; list-is = refl }
 
 module _ (s : List ℕ) (r : Record) (acc : List Record) (ss : List (List ℕ)) {rest : List Answered} {after : List Record} where
   pub accepted-next : {lines : List ℤ} → decoded s ≡ r → refusalOf (asked (factsOfList acc) r) r ≡ 0
-      → listBelow 16 (λ p. ofPost (pos 0) (λ n. reckonedLine acc (n - 1) p) r) ≡ lines
+      → listBelow partyCount (λ p. ofPost (pos 0) (λ n. reckonedLine acc (n - 1) p) r) ≡ lines
       → Fed (r ∷ acc) ss rest after → Fed acc (s ∷ ss) (answer 0 lines ∷ rest) after
   unfolding answersOf acceptedOf lineFor listBelow
   accepted-next d e l more =

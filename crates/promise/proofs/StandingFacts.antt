@@ -3,10 +3,9 @@ use mathlib.Core.Path.{_≡_, ap}
 use mathlib.Core.List.{List}
 use Prim.Native.Nat.{ℕ}
 use Rattle.records.specs.declared.format.Record.{Record}
-use Rattle.records.specs.Hours.{serviceHour, outageHour, deratedWatts}
 use Rattle.records.specs.Facts.{Facts}
 use Rattle.records.specs.Dues.{dueIn}
-use Rattle.promise.specs.Reckoning.{yearOf, acceptedHours, sumOver, lastIndex, factsOfList, reckonedDue}
+use Rattle.promise.specs.Reckoning.{yearOf, acceptedHours, countsOf, lastIndex, factsOfList, reckonedDue}
 use Rattle.promise.specs.Standing.{SameStanding}
 use Rattle.promise.proofs.Falling.{same-hours}
 use Rattle.promise.proofs.AcceptedLists.{Kept}
@@ -22,9 +21,7 @@ standing-facts rs qs k l same =
       unit = λ j. same .units j i;
       commitment = λ j. same .commitments j i;
       obligation = λ a p. same .obligations a p i;
-      sh = λ u. sumOver (serviceHour (same .year i)) (hours u i);
-      foh = λ u. sumOver (outageHour (same .year i)) (hours u i);
-      d = λ u. sumOver (deratedWatts (same .year i)) (hours u i);
+      hours = λ u. countsOf (same .year i) (hours u i);
       last = λ u. lastIndex (same .year i) (hours u i);
     }
 

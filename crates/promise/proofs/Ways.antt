@@ -13,6 +13,7 @@ use Rattle.calendar.specs.Gregorian.{leapYear, monthDays, isDate, multiplesBelo
 use Rattle.calendar.specs.Week.{weekday, firstMonday, thirdMonday, isHoliday}
 use Rattle.calendar.specs.Peak.{summerPeak, winterPeak, peakPeriod, peakDay, peakHour}
 use Rattle.calendar.specs.DeliveryYear.{deliveryDays, calendarYear, isDeliveryDate, deliveryDay, isDeliveryPeak}
+use Rattle.settlement.specs.declared.capacity.HourCounts.{HourCounts}
 use Rattle.settlement.specs.Lists.{listBelow, element}
 use Rattle.settlement.specs.Signed.{above, below}
 use Rattle.settlement.specs.Capacity.{wattDaysOf, committed, unforced, peakRated, available, quarters, limit, limited}
@@ -25,15 +26,15 @@ use Rattle.records.specs.declared.format.CommitmentRecord.{CommitmentRecord}
 use Rattle.records.specs.declared.format.HourRecord.{HourRecord}
 use Rattle.records.specs.declared.format.Record.{Record}
 use Rattle.records.specs.declared.format.Record.the-variants.{Year, Area, Unit, Commitment, Hour, Load, Post}
-use Rattle.records.specs.Format.{numberAt}
+use Rattle.records.specs.Format.{partyCount, numberAt}
 use Rattle.records.specs.Decoded.{isBroken, ofLength, framed, decoded}
-use Rattle.records.specs.Refusal.{areaFits, unitFits, commitmentFits, deratingFits, hourFits, loadFits, refusalOf}
+use Rattle.records.specs.Refusal.{daysFit, deratingFits, hourFits, numbersFit, inRange, refusalOf}
 use Rattle.records.specs.Hours.{hourIndex, isPeak, serviceHour, outageHour, deratedWatts}
 use Rattle.records.specs.Facts.{Facts, noArea, noUnit, noCommitment}
-use Rattle.records.specs.Rules.{place, asked}
+use Rattle.records.specs.Rules.{index, asked}
 use Rattle.records.specs.Dues.{dueIn}
 use Rattle.promise.specs.Reckoning.{yearOf, latestArea, unitOf, latestCommitment, latestObligation, acceptedHours, sumOver, lastIndex, factsOfList}
-use Rattle.promise.specs.Reckoning.{reckonedDue, reckonedPaid, reckonedLine}
+use Rattle.promise.specs.Reckoning.{countsOf, reckonedDue, reckonedPaid, reckonedLine}
 use Rattle.promise.specs.Standing.{SameStanding}
 use Rattle.promise.specs.Figures.{year, area, unit, commitment, load, post, answer, noLines, ofThree, beforeLoadsAnswers}
 use Rattle.promise.specs.TwoWays.{derated, oneWay, anotherWay, oneWayLines, earlyLines, laterLines, TwoWays}
@@ -110,20 +111,14 @@ areas-same k = replaced (area₁ 9000) (area₁ 100) noArea (eqb 1 (k + 1))
 abbrev hours : ℕ → List HourRecord
 hours u = cond (eqb 1 (u + 1)) (hour₁ ∷ []) []
 
-abbrev sh : ℕ → ℕ
-sh u = sumOver (serviceHour 2010) (hours u)
-
-abbrev foh : ℕ → ℕ
-foh u = sumOver (outageHour 2010) (hours u)
-
-abbrev d : ℕ → ℕ
-d u = sumOver (deratedWatts 2010) (hours u)
+abbrev counts : ℕ → HourCounts
+counts u = countsOf 2010 (hours u)
 
 abbrev last : ℕ → ℕ
 last u = lastIndex 2010 (hours u)
 
 abbrev withHour : ℕ → Facts
-withHour price = example price (latestObligation loaded) sh foh d last
+withHour price = example price (latestObligation loaded) counts last
 
 facts-first : factsOfList first ≡ withHour 9000
 unfolding factsOfList yearOf latestArea unitOf latestCommitment latestObligation acceptedHours
@@ -137,9 +132,7 @@ facts-early = λ i. record {
   unit = λ k. units-same k i;
   commitment = λ k. commitments-same k i;
   obligation = λ a p. obligations-same a p i;
-  sh = sh;
-  foh = foh;
-  d = d;
+  hours = counts;
   last = last;
 }
 
@@ -152,16 +145,14 @@ facts-second = λ i. record {
   unit = facts-early i .unit;
   commitment = facts-early i .commitment;
   obligation = facts-early i .obligation;
-  sh = sh;
-  foh = foh;
-  d = d;
+  hours = counts;
   last = last;
 }
 
 abbrev nets : List ℤ
 nets = ofThree (pos 225000) (negℤ (pos 100000)) (pos 0)
 
-nets-listed : (price : ℕ) → listBelow 16 (added price (latestObligation loaded) sh foh d last) ≡ nets
+nets-listed : (price : ℕ) → listBelow partyCount (added price (latestObligation loaded) counts last) ≡ nets
 unfolding sumBelow within leapYear monthDays isDate multiplesBelow daysBeforeYear dayOfYear dayNumber weekday firstMonday thirdMonday isHoliday
     summerPeak winterPeak peakPeriod peakDay peakHour calendarYear isDeliveryDate isDeliveryPeak sumOver isPeak serviceHour outageHour deratedWatts
     listBelow unitShare wattDaysOf limitedShortfall unitLimit unitShortfall limited limit quarters available unforced peakRated committed
@@ -170,7 +161,7 @@ nets-listed price = refl
 
 -- dues and row 11 at a price
 abbrev duesAt : ℕ → List ℤ
-duesAt price = listBelow 16 (due (amountOf nets) price 365 (element obligations))
+duesAt price = listBelow partyCount (due (amountOf nets) price 365 (element obligations))
 
 abbrev unplacedAt : ℕ → Bool
 unplacedAt price = isUnplaced (amountOf nets) price 365 (element obligations)
@@ -180,29 +171,29 @@ unfolding listBelow sumBelow above below priced charge ceiling charges ceilings 
 money = (refl, refl, refl, refl)
 
 module _ (acc : List Record) (price : ℕ) (f : factsOfList acc ≡ withHour price) where
-  dues-of : {dues : List ℤ} → duesAt price ≡ dues → (p : ℕ) → p < 16 → reckonedDue acc 0 p ≡ amountOf dues p
+  dues-of : {dues : List ℤ} → duesAt price ≡ dues → (p : ℕ) → p < partyCount → reckonedDue acc 0 p ≡ amountOf dues p
   unfolding reckonedDue
   dues-of e p h =
-      ap (λ (F : Facts). dueIn F 0 p) f ∙ dues-are price (latestObligation loaded) sh foh d last (nets-listed price) obligations-listed e p h
+      ap (λ (F : Facts). dueIn F 0 p) f ∙ dues-are price (latestObligation loaded) counts last (nets-listed price) obligations-listed e p h
 
   number-of : unplacedAt price ≡ false → refusalOf (asked (factsOfList acc) (Post 1)) (Post 1) ≡ 0
-  number-of e = rw f (post-accepted price (latestObligation loaded) sh foh d last (nets-listed price) obligations-listed e)
+  number-of e = rw f (post-accepted price (latestObligation loaded) counts last (nets-listed price) obligations-listed e)
 
-lines-first : listBelow 16 (reckonedLine first 0) ≡ oneWayLines
+lines-first : listBelow partyCount (reckonedLine first 0) ≡ oneWayLines
 unfolding listBelow reckonedPaid line
 lines-first = lines-are first oneWayLines (λ p. pos 0) (dues-of first 9000 facts-first (money .0)) (λ p h. refl) ∙ refl
 
-lines-early : listBelow 16 (reckonedLine early 0) ≡ earlyLines
+lines-early : listBelow partyCount (reckonedLine early 0) ≡ earlyLines
 unfolding listBelow reckonedPaid line
 lines-early = lines-are early earlyLines (λ p. pos 0) (dues-of early 100 facts-early (money .2)) (λ p h. refl) ∙ refl
 
-lines-second : listBelow 16 (reckonedLine second 0) ≡ laterLines
+lines-second : listBelow partyCount (reckonedLine second 0) ≡ laterLines
 unfolding listBelow reckonedPaid line
 lines-second =
     lines-are second oneWayLines (amountOf earlyLines) (dues-of second 9000 facts-second (money .0)) (dues-of early 100 facts-early (money .2)) ∙ refl
 
 one-fed : Fed [] oneWay (beforeLoadsAnswers ++ (answer 0 noLines ∷ answer 0 noLines ∷ answer 0 noLines ∷ answer 0 oneWayLines ∷ [])) (Post 1 ∷ first)
-unfolding numberAt isBroken ofLength framed decoded within place loadFits deratingFits hourFits refusalOf listBelow leapYear monthDays isDate
+unfolding numberAt isBroken ofLength framed decoded within index deratingFits hourFits numbersFit inRange refusalOf listBelow leapYear monthDays isDate
     calendarYear isDeliveryDate deliveryDay hourIndex multiplesBelow daysBeforeYear dayOfYear dayNumber sumBelow
     yearOf latestArea unitOf acceptedHours lastIndex factsOfList
 one-fed =
@@ -216,7 +207,7 @@ another-fed : Fed [] anotherWay
     (beforeLoadsAnswers ++ (answer 0 noLines ∷ answer 0 noLines ∷ answer 10 noLines ∷ answer 0 noLines ∷ answer 0 noLines ∷ answer 0 earlyLines
     ∷ answer 0 noLines ∷ answer 0 laterLines ∷ []))
     (Post 1 ∷ second)
-unfolding numberAt isBroken ofLength framed decoded within place areaFits unitFits commitmentFits loadFits deratingFits hourFits refusalOf listBelow
+unfolding numberAt isBroken ofLength framed decoded within index daysFit deratingFits hourFits numbersFit inRange refusalOf listBelow
     leapYear monthDays isDate deliveryDays calendarYear isDeliveryDate deliveryDay hourIndex multiplesBelow daysBeforeYear dayOfYear dayNumber sumBelow
     yearOf latestArea unitOf acceptedHours lastIndex factsOfList
 another-fed =

@@ -6,6 +6,7 @@ use Prim.Native.Nat.{ℕ, _+_}
 use lib.IntN.{_+ℤ_}
 use Rattle.records.specs.declared.format.Record.{Record}
 use Rattle.records.specs.declared.format.Record.the-variants.{Post}
+use Rattle.records.specs.Format.{commitmentCount, partyCount}
 use Rattle.records.specs.Dues.{wattDaysFor, partFor}
 use Rattle.settlement.specs.Lists.{listBelow}
 use Rattle.settlement.specs.Capacity.{unitWattDays, wattDaysOf}
@@ -21,7 +22,7 @@ LinesAddUp = (acc : List Record) (a p : ℕ) → reckonedPaid (Post (a + 1) ∷ 
 
 -- the number and the lines of an entry
 abbrev pub answered : Entry → Answered
-answered e = record { number = numberOf e; lines = listBelow 16 (lineOf e) }
+answered e = record { number = numberOf e; lines = listBelow partyCount (lineOf e) }
 
 -- the book's answers to any strings, from the empty book on, are the reckoning's, line by line
 abbrev pub SameAnswers : Type 0
@@ -35,7 +36,7 @@ SameFacts = (ss : List (List ℕ)) → factsOfBook (bookAfter emptyBook ss) ≡ 
 -- parts add up to, from which the due is worked.
 abbrev pub PartsAddUp : Type 0
 PartsAddUp = (ss : List (List ℕ)) (u : ℕ)
-    → wattDaysOf (partFor (factsOfList (acceptedOf [] ss)) u) ≡ unitWattDays 64 (wattDaysFor (factsOfList (acceptedOf [] ss)) u)
+    → wattDaysOf (partFor (factsOfList (acceptedOf [] ss) .commitment) u) ≡ unitWattDays commitmentCount (wattDaysFor (factsOfList (acceptedOf [] ss) .commitment) u)
 
 -- any list of strings is that of a log: of the strings end to end, with the place where each of them ends
 abbrev pub EveryLog : Type 0

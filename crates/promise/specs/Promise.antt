@@ -9,6 +9,7 @@ use lib.IntN.{ℤ, pos, _+ℤ_}
 use lib.Dec.{eqb}
 use Rattle.settlement.specs.Signed.{sumBelowℤ}
 use Rattle.settlement.specs.Money.{centsOf}
+use Rattle.records.specs.Format.{partyCount}
 use Rattle.records.specs.Decoded.{decoded}
 use Rattle.records.specs.Kinds.{ofPost}
 use Rattle.book.specs.declared.Book.{Book}
@@ -59,12 +60,12 @@ pub record Promise : Type 0 where
   -- the list of the book's numbers is the list of the reckoning's
   pub numbers : (ss : List (List ℕ)) → map numberOf (fromEmpty ss) ≡ map (λ (r : Answered). r .number) (answersOf [] ss)
   -- the sixteen lines of each accepted post add up to zero
-  pub balanced : (ss : List (List ℕ)) (a : ℕ) (e : Entry) → List·Memᴰ e (fromEmpty ss) → isPost a e ≡ true → sumBelowℤ 16 (lineOf e) ≡ pos 0
+  pub balanced : (ss : List (List ℕ)) (a : ℕ) (e : Entry) → List·Memᴰ e (fromEmpty ss) → isPost a e ≡ true → sumBelowℤ partyCount (lineOf e) ≡ pos 0
   -- after each accepted post of an area, each party's total there is its due, which the reckoning works out from the records
   -- accepted up to then; each accepted post of a list ends the list of the strings up to it
-  pub totals : (ss : List (List ℕ)) (a p : ℕ) → p < 16 → endsInPost a (fromEmpty ss) ≡ true
+  pub totals : (ss : List (List ℕ)) (a p : ℕ) → p < partyCount → endsInPost a (fromEmpty ss) ≡ true
       → total a p (fromEmpty ss) ≡ reckonedDue (acceptedOf [] ss) a p
   -- for any two lists that leave the same standing facts, each ended by an accepted post of one and the same area, every party
   -- has the same total there
-  pub order : (ss ts : List (List ℕ)) (a p : ℕ) → p < 16 → endsInPost a (fromEmpty ss) ≡ true → endsInPost a (fromEmpty ts) ≡ true
+  pub order : (ss ts : List (List ℕ)) (a p : ℕ) → p < partyCount → endsInPost a (fromEmpty ss) ≡ true → endsInPost a (fromEmpty ts) ≡ true
       → SameStanding (acceptedOf [] ss) (acceptedOf [] ts) → total a p (fromEmpty ss) ≡ total a p (fromEmpty ts)

@@ -6,6 +6,7 @@ use mathlib.Core.List.{List, [], _∷_}
 use Prim.Native.Nat.{ℕ, _+_, _-_}
 use lib.IntN.{ℤ, pos}
 use lib.Dec.{eqb}
+use Rattle.settlement.specs.declared.capacity.HourCounts.{HourCounts}
 use Rattle.settlement.specs.Lists.{listBelow}
 use Rattle.settlement.specs.Money.{line}
 use Rattle.records.specs.declared.format.AreaRecord.{AreaRecord}
@@ -13,6 +14,7 @@ use Rattle.records.specs.declared.format.UnitRecord.{UnitRecord}
 use Rattle.records.specs.declared.format.CommitmentRecord.{CommitmentRecord}
 use Rattle.records.specs.declared.format.HourRecord.{HourRecord}
 use Rattle.records.specs.declared.format.Record.{Record}
+use Rattle.records.specs.Format.{partyCount}
 use Rattle.records.specs.Decoded.{decoded}
 use Rattle.records.specs.Kinds.{ofYear, ofArea, ofUnit, ofCommitment, ofHour, ofLoad, ofPost}
 use Rattle.records.specs.Hours.{hourIndex, serviceHour, outageHour, deratedWatts}
@@ -59,6 +61,10 @@ unfoldable pub sumOver : (HourRecord → ℕ) → List HourRecord → ℕ
 sumOver f [] = 0
 sumOver f (h ∷ hs) = sumOver f hs + f h
 
+-- 01, Fresh reckoning: SH, FOH and D of a unit's Hour records, in delivery year y
+abbrev pub countsOf : ℕ → List HourRecord → HourCounts
+countsOf y hs = record { service = sumOver (serviceHour y) hs; outage = sumOver (outageHour y) hs; derated = sumOver (deratedWatts y) hs }
+
 -- 01, Fresh reckoning: the unit's last accepted hour, by its place in delivery year y; 0 where there is none
 unfoldable pub lastIndex : ℕ → List HourRecord → ℕ
 lastIndex y [] = 0
@@ -72,9 +78,7 @@ factsOfList acc = record {
   unit = unitOf acc;
   commitment = latestCommitment acc;
   obligation = latestObligation acc;
-  sh = λ u. sumOver (serviceHour (yearOf acc)) (acceptedHours acc u);
-  foh = λ u. sumOver (outageHour (yearOf acc)) (acceptedHours acc u);
-  d = λ u. sumOver (deratedWatts (yearOf acc)) (acceptedHours acc u);
+  hours = λ u. countsOf (yearOf acc) (acceptedHours acc u);
   last = λ u. lastIndex (yearOf acc) (acceptedHours acc u);
 }
 
@@ -111,7 +115,7 @@ pub record Answered : Type 0 where
   pub lines : List ℤ
 
 abbrev pub answerFor : List Record → List ℕ → Answered
-answerFor acc s = record { number = numberFor acc s; lines = listBelow 16 (lineFor acc s) }
+answerFor acc s = record { number = numberFor acc s; lines = listBelow partyCount (lineFor acc s) }
 
 -- 01, Fresh reckoning: it is fed the same strings of bytes as the book, in the same order: the answers, from a list on
 unfoldable pub answersOf : List Record → List (List ℕ) → List Answered

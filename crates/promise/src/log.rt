@@ -33,14 +33,14 @@ fn put_number(numbers: &mut [u32], i: usize, number: u32)
 }
 
 // Answers the next place, which is never past the end.
-fn put_lines(lines: &mut [i64], at: usize, amounts: [Cents; 16]) -> usize
+fn put_lines(lines: &mut [i64], at: usize, amounts: [Cents; Book::PARTIES]) -> usize
     requires { ⌜ at ≤ length (now lines) ⌝ }
     ensures { λ _. ⌜ now (lines .exit) ≡ storedFrom at (now (lines .entry)) (map (λ c. c .0) amounts) ⌝ }
     ensures { λ r. ⌜ r ≡ min (at + length amounts) (length (now (lines .entry))) ⌝ }
 {
     let mut next = at;
     let mut p = 0;
-    while p < 16 {
+    while p < Book::PARTIES {
         if lines.len() <= next {
             return next;
         }

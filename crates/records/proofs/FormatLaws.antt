@@ -13,7 +13,7 @@ use Rattle.calendar.specs.Range.{within}
 use Rattle.records.specs.declared.format.HourRecord.{HourRecord}
 use Rattle.records.specs.declared.stream.Next.{Next}
 use Rattle.records.specs.declared.stream.Next.the-variants.{Whole, Broken, Partial}
-use Rattle.records.specs.Format.{numberAt, formats, fits, hourEnding}
+use Rattle.records.specs.Format.{numberAt, formats, hourEnding}
 use Rattle.records.specs.Decoded.{lengthOf, isBroken, decoded}
 use Rattle.records.specs.Kinds.{ofHour}
 use Rattle.records.specs.Hours.{hourIndex}
@@ -48,7 +48,7 @@ by-day-then-hour d e h k h₁ h₂ k₁ k₂ = go (ltb d e) (eqb d e) (ltb h k) 
     go false true false p q r = le-ltb (d * 24 + h) (e * 24 + k) (omega (arith, eqb-true d e q, ltb-false h k r))
     go false false c p q r = le-ltb (d * 24 + h) (e * 24 + k) (omega (arith, ltb-false d e p, eqb-false d e q))
 
-pub hours-ordered : (y : ℕ) (h k : HourRecord) → fits hourEnding (h .hour) ≡ true → fits hourEnding (k .hour) ≡ true
+pub hours-ordered : (y : ℕ) (h k : HourRecord) → hourEnding .holds (h .hour) ≡ true → hourEnding .holds (k .hour) ≡ true
     → ltb (hourIndex y h) (hourIndex y k) ≡ (ltb (dayOf y h) (dayOf y k) || (eqb (dayOf y h) (dayOf y k) && ltb (h .hour) (k .hour)))
 unfolding hourIndex
 hours-ordered y h k p q =

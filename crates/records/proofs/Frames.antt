@@ -13,9 +13,9 @@ use Rattle.records.specs.declared.format.Fault.the-variants.{Broken, Unk
 use Rattle.records.specs.declared.format.Record.{Record}
 use Rattle.records.specs.declared.format.Record.the-variants.{Unframed, Hour}
 use Rattle.records.specs.declared.refusal.Asked.{Asked}
-use Rattle.records.specs.Format.{Format}
-use Rattle.records.specs.Decoded.{tagOf, lengthOf, isBroken, faultNumber, hourRecord, ofLength, framed, decoded}
-use Rattle.records.specs.Kinds.{ofHour}
+use Rattle.records.specs.Format.{Format, bytesOf, valuesOf, hourFormat}
+use Rattle.records.specs.Decoded.{tagOf, lengthOf, isBroken, ofLength, framed, decoded}
+use Rattle.records.specs.Kinds.{faultNumber, hourFrom, ofHour}
 use Rattle.records.specs.Refusal.{refusalOf}
 
 neither : (a b : Bool) → (a || b) ≡ false → (a ≡ false) × (b ≡ false)
@@ -32,13 +32,13 @@ whole s q =
     (neither (ltb (length s) 3) (ltb 32 (lengthOf s) || not (eqb (length s) (3 + lengthOf s))) q .1) .1))
 
 module _ (f : Format) (s : List ℕ) (framed : isBroken s ≡ false) where
-  pub of-length : {x r : Record} → length s ≡ 3 + f .size → x ≡ r → x ≡ ofLength f s r
+  pub of-length : {x : Record} (made : List ℕ → Record) → length s ≡ bytesOf f → x ≡ made (valuesOf f s) → x ≡ ofLength f s made
   unfolding ofLength
-  of-length e known = rw (eq-eqb (lengthOf s) (f .size) (omega (arith, whole s framed))) known
+  of-length made e known = rw (eq-eqb (lengthOf s) (f .size) (omega (arith, whole s framed))) known
 
-  pub not-of-length : (r : Record) → (length s ≡ 3 + f .size → ⊥) → Unframed WrongLength ≡ ofLength f s r
+  pub not-of-length : (made : List ℕ → Record) → (length s ≡ bytesOf f → ⊥) → Unframed WrongLength ≡ ofLength f s made
   unfolding ofLength
-  not-of-length r ne = rw (ne-eqb (lengthOf s) (f .size) (omega (arith, whole s framed)))
+  not-of-length made ne = rw (ne-eqb (lengthOf s) (f .size) (omega (arith, whole s framed)))
 
 -- a fault's number is that of its row
 pub fault-row : (a : Asked) (f : Fault) → faultNumber f ≡ refusalOf a (Unframed f)
@@ -48,7 +48,7 @@ fault-row a UnknownTag = refl
 fault-row a WrongLength = refl
 
 -- An Hour record by its frame: twelve bytes, tag 5, and a stated length of 9.
-pub hour-framed : (s : List ℕ) → length s ≡ 12 → tagOf s ≡ 5 → lengthOf s ≡ 9 → decoded s ≡ Hour (hourRecord s)
+pub hour-framed : (s : List ℕ) → length s ≡ 12 → tagOf s ≡ 5 → lengthOf s ≡ 9 → decoded s ≡ Hour (hourFrom (valuesOf hourFormat s))
 unfolding decoded isBroken framed ofLength
 hour-framed s bytes tag stated = simp (bytes, tag, stated)
 

@@ -4,3 +4,6 @@ pub mod Numbers
 pub mod Named
 pub mod FormatLaws
 pub mod AcceptedRows
+pub mod OneKind
+pub mod Fields
+pub mod ByKind

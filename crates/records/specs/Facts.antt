@@ -4,6 +4,7 @@
 use mathlib.Core.Bool.{Bool}
 use Prim.Native.Nat.{ℕ}
 use lib.Dec.{ltb}
+use Rattle.settlement.specs.declared.capacity.HourCounts.{HourCounts}
 use Rattle.settlement.specs.Quantities.{installedWatts}
 use Rattle.records.specs.declared.format.AreaRecord.{AreaRecord}
 use Rattle.records.specs.declared.format.UnitRecord.{UnitRecord}
@@ -18,10 +19,8 @@ pub record Facts : Type 0 where
   pub commitment : ℕ → CommitmentRecord
   -- an area's obligation of a party
   pub obligation : ℕ → ℕ → ℕ
-  -- over a unit's accepted peak hours: in service, in full forced outage, and the sum of the forced deratings
-  pub sh : ℕ → ℕ
-  pub foh : ℕ → ℕ
-  pub d : ℕ → ℕ
+  -- what a unit's accepted peak hours come to: SH, FOH and D
+  pub hours : ℕ → HourCounts
   -- the index of a unit's last accepted hour; 0 where it has none
   pub last : ℕ → ℕ
 
@@ -29,7 +28,10 @@ abbrev pub noArea : AreaRecord
 noArea = record { area = 0; price = 0 }
 
 abbrev pub noUnit : UnitRecord
-noUnit = record { unit = 0; area = 0; installed = installedWatts 0; e = 0; f = 0; g = 0; class = 0 }
+noUnit = record { unit = 0; area = 0; rating = record { installed = installedWatts 0; eford = 0; eford5 = 0; efordyear = 0; class = 0 } }
+
+abbrev pub noHours : HourCounts
+noHours = record { service = 0; outage = 0; derated = 0 }
 
 abbrev pub noCommitment : CommitmentRecord
 noCommitment = record { number = 0; unit = 0; party = 0; first = 0; last = 0; watts = 0 }

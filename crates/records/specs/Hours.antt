@@ -4,9 +4,22 @@ use mathlib.Core.List.{List}
 use Prim.Native.Nat.{ℕ, _+_, _*_}
 use lib.Dec.{eqb, leb}
 use Rattle.calendar.specs.DeliveryYear.{deliveryDay, isDeliveryPeak}
+use Rattle.settlement.specs.declared.capacity.HourCounts.{HourCounts}
 use Rattle.records.specs.declared.format.HourRecord.{HourRecord}
 use Rattle.records.specs.Decoded.{decoded}
 use Rattle.records.specs.Kinds.{ofHour}
+
+-- 01, Hours, kinds that a rule names: in service, forced derating while called upon
+abbrev pub derated : ℕ
+derated = 1
+
+-- in service, derating excused: the last of the kinds in service
+abbrev pub excused : ℕ
+excused = 2
+
+-- full forced outage while called upon
+abbrev pub forcedOut : ℕ
+forcedOut = 3
 
 abbrev pub noHour : HourRecord
 noHour = record { unit = 0; month = 0; day = 0; hour = 0; kind = 0; derating = 0 }
@@ -22,15 +35,22 @@ hourIndex y h = deliveryDay y (h .month) (h .day) * 24 + h .hour
 unfoldable pub isPeak : ℕ → HourRecord → Bool
 isPeak y h = isDeliveryPeak y (h .month) (h .day) (h .hour)
 
--- In a peak hour: kinds 0 (in service), 1 (in service, forced derating while called upon) and 2 (in service, derating
--- excused) add 1 to SH;
+-- In a peak hour: kinds 0 (in service), 1 and 2 add 1 to SH;
 unfoldable pub serviceHour : ℕ → HourRecord → ℕ
-serviceHour y h = cond (isPeak y h && leb (h .kind) 2) 1 0
+serviceHour y h = cond (isPeak y h && leb (h .kind) excused) 1 0
 
--- kind 3 (full forced outage while called upon) adds 1 to FOH;
+-- kind 3 adds 1 to FOH;
 unfoldable pub outageHour : ℕ → HourRecord → ℕ
-outageHour y h = cond (isPeak y h && eqb (h .kind) 3) 1 0
+outageHour y h = cond (isPeak y h && eqb (h .kind) forcedOut) 1 0
 
 -- kind 1 adds its derating to D; kinds 4 (outage excused or not called) and 5 (reserve shutdown) add nothing.
 unfoldable pub deratedWatts : ℕ → HourRecord → ℕ
-deratedWatts y h = cond (isPeak y h && eqb (h .kind) 1) (h .derating) 0
+deratedWatts y h = cond (isPeak y h && eqb (h .kind) derated) (h .derating) 0
+
+-- what a unit's hours come to, with one more
+unfoldable pub counted : ℕ → HourCounts → HourRecord → HourCounts
+counted y c h = record {
+  service = c .service + serviceHour y h;
+  outage = c .outage + outageHour y h;
+  derated = c .derated + deratedWatts y h;
+}

@@ -8,7 +8,7 @@ use lib.ListN.{length, take}
 use Rattle.calendar.specs.DeliveryYear.{deliveryDay}
 use Rattle.records.specs.declared.format.HourRecord.{HourRecord}
 use Rattle.records.specs.declared.stream.Next.the-variants.{Whole, Broken, Partial}
-use Rattle.records.specs.Format.{Field, Format, formats, fits, hourEnding}
+use Rattle.records.specs.Format.{Field, Format, formats, hourEnding}
 use Rattle.records.specs.Decoded.{isBroken}
 use Rattle.records.specs.Hours.{hourIndex}
 use Rattle.records.specs.Stream.{nextRecord}
@@ -29,7 +29,7 @@ pub record RecordLaws : Type 0 where
   -- the fields of every format fill its value, without gap or overlap
   pub fields-adjoin : adjoining formats ≡ true
   -- one hour comes before another if its day does, or if the day is the same and its hour ending is lower
-  pub hours-ordered : (y : ℕ) (h k : HourRecord) → fits hourEnding (h .hour) ≡ true → fits hourEnding (k .hour) ≡ true
+  pub hours-ordered : (y : ℕ) (h k : HourRecord) → hourEnding .holds (h .hour) ≡ true → hourEnding .holds (k .hour) ≡ true
       → ltb (hourIndex y h) (hourIndex y k) ≡ (ltb (dayOf y h) (dayOf y k) || (eqb (dayOf y h) (dayOf y k) && ltb (h .hour) (k .hour)))
   -- row 1 does not fit the record that a stream is cut at, and it is all there
   pub whole-not-broken : (s : List ℕ) (n : ℕ) → nextRecord s ≡ Whole n → (n ≤ length s) × (isBroken (take n s) ≡ false)

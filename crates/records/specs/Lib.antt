@@ -1,6 +1,6 @@
 pub mod Format
-pub mod Decoded
 pub mod Kinds
+pub mod Decoded
 pub mod Hours
 pub mod Refusal
 pub mod Facts

@@ -1,75 +1,48 @@
 -- Places of refusal. 01, the section of that name: checked from the top; the first that fits is given.
-use mathlib.Core.Bool.{Bool, true, false, cond, not, _&&_}
+use mathlib.Core.Bool.{Bool, true, false, cond, not, _&&_, _||_}
+use mathlib.Core.List.{[], _∷_}
 use Prim.Native.Nat.{ℕ}
 use lib.Dec.{eqb, ltb, leb}
 use Rattle.calendar.specs.DeliveryYear.{deliveryDays, isDeliveryDate}
-use Rattle.records.specs.declared.format.AreaRecord.{AreaRecord}
-use Rattle.records.specs.declared.format.UnitRecord.{UnitRecord}
+use Rattle.settlement.specs.Lists.{element}
 use Rattle.records.specs.declared.format.CommitmentRecord.{CommitmentRecord}
 use Rattle.records.specs.declared.format.HourRecord.{HourRecord}
-use Rattle.records.specs.declared.format.LoadRecord.{LoadRecord}
 use Rattle.records.specs.declared.format.Record.{Record}
-use Rattle.records.specs.declared.format.Record.the-variants.{Unframed, Year, Area, Unit, Commitment, Hour, Load, Post}
 use Rattle.records.specs.declared.refusal.Asked.{Asked}
-use Rattle.records.specs.Format.{fits}
-use Rattle.records.specs.Format.{yearYear, areaArea, areaPrice, unitUnit, unitArea, unitInstalled, unitE, unitF, unitG, unitClass}
-use Rattle.records.specs.Format.{commitmentNumber, commitmentUnit, commitmentParty, commitmentWatts}
-use Rattle.records.specs.Format.{hourUnit, hourEnding, hourKind, loadArea, loadParty, loadObligation, postArea}
-use Rattle.records.specs.Decoded.{faultNumber}
-use Rattle.records.specs.Kinds.{ofYear, ofUnit, ofHour, ofPost}
-use Rattle.records.specs.Hours.{hourIndex}
+use Rattle.records.specs.Format.{fieldsFit, yearFormat, unitFormat, commitmentFormat, hourFormat, loadFormat, postFormat}
+use Rattle.records.specs.Kinds.{formatOf, tagOfRecord, numbersOf, isOf, isOneOf, ofUnit, ofCommitment, ofHour, ofPost}
+use Rattle.records.specs.Hours.{derated, hourIndex}
 
--- 01, Records: every number is in its range; y is the year that was entered
-unfoldable pub areaFits : AreaRecord → Bool
-areaFits a = fits areaArea (a .area) && fits areaPrice (a .price)
+-- rows 1, 2 and 3: what the frame refuses; it has no listed tag, and its one number is its row's
+abbrev pub hasFault : ℕ → Record → Bool
+hasFault n r = eqb (tagOfRecord r) 0 && eqb (element (numbersOf r) 0) n
 
-unfoldable pub unitFits : UnitRecord → Bool
-unitFits u =
-    fits unitUnit (u .unit) && (fits unitArea (u .area) && (fits unitInstalled (u .installed .0)
-    && (fits unitE (u .e) && (fits unitF (u .f) && (fits unitG (u .g) && fits unitClass (u .class))))))
+-- 01, Records, Commitment: first ≤ last < days
+unfoldable pub daysFit : ℕ → CommitmentRecord → Bool
+daysFit y c = leb (c .first) (c .last) && ltb (c .last) (deliveryDays y)
 
--- first ≤ last < days
-unfoldable pub commitmentFits : ℕ → CommitmentRecord → Bool
-commitmentFits y c =
-    fits commitmentNumber (c .number) && (fits commitmentUnit (c .unit) && (fits commitmentParty (c .party)
-    && (leb (c .first) (c .last) && (ltb (c .last) (deliveryDays y) && fits commitmentWatts (c .watts)))))
-
--- derating is at least 1 for kind 1 and is 0 for other kinds
+-- 01, Records: derating is at least 1 for kind 1 and is 0 for other kinds
 unfoldable pub deratingFits : HourRecord → Bool
-deratingFits h = cond (eqb (h .kind) 1) (leb 1 (h .derating)) (eqb (h .derating) 0)
+deratingFits h = cond (eqb (h .kind) derated) (leb 1 (h .derating)) (eqb (h .derating) 0)
 
 -- a date in the calendar: of the delivery year
 unfoldable pub hourFits : ℕ → HourRecord → Bool
-hourFits y h =
-    fits hourUnit (h .unit) && (isDeliveryDate y (h .month) (h .day) && (fits hourEnding (h .hour)
-    && (fits hourKind (h .kind) && deratingFits h)))
+hourFits y h = isDeliveryDate y (h .month) (h .day) && deratingFits h
 
-unfoldable pub loadFits : LoadRecord → Bool
-loadFits l = fits loadArea (l .area) && (fits loadParty (l .party) && fits loadObligation (l .obligation))
+-- the rules of whole records; y is the year that was entered
+abbrev pub ownRule : ℕ → Record → Bool
+ownRule y r = ofCommitment (ofHour true (hourFits y) r) (daysFit y) r
 
-abbrev pub inRange : ℕ → Record → Bool
-inRange y (Unframed f) = true
-inRange y (Year n) = fits yearYear n
-inRange y (Area a) = areaFits a
-inRange y (Unit u) = unitFits u
-inRange y (Commitment c) = commitmentFits y c
-inRange y (Hour h) = hourFits y h
-inRange y (Load l) = loadFits l
-inRange y (Post a) = fits postArea a
+-- 01, Records: every number in its field's range,
+unfoldable pub numbersFit : Record → Bool
+numbersFit r = fieldsFit (formatOf r .fields) (numbersOf r)
 
--- rows 1, 2 and 3: what the frame refuses
-abbrev pub hasFault : ℕ → Record → Bool
-hasFault n (Unframed f) = eqb (faultNumber f) n
-hasFault n (Year y) = false
-hasFault n (Area a) = false
-hasFault n (Unit u) = false
-hasFault n (Commitment c) = false
-hasFault n (Hour h) = false
-hasFault n (Load l) = false
-hasFault n (Post p) = false
+-- and the record's own rule
+unfoldable pub inRange : ℕ → Record → Bool
+inRange y r = numbersFit r && ownRule y r
 
 abbrev pub isYear : Record → Bool
-isYear r = ofYear false (λ y. true) r
+isYear r = isOf yearFormat r
 
 -- row 4: no year yet, tag not 0x01
 abbrev pub noYear : Asked → Record → Bool
@@ -86,14 +59,9 @@ outOfRange a r = not (inRange (a .year) r)
 -- row 7: not entered: the area of a Unit, Load or Post, or the unit of a Commitment or Hour. `a .area` and `a .unit` say whether
 -- the area and the unit that the record names are entered.
 abbrev pub notEntered : Asked → Record → Bool
-notEntered a (Unframed f) = false
-notEntered a (Year y) = false
-notEntered a (Area b) = false
-notEntered a (Unit u) = not (a .area)
-notEntered a (Commitment c) = not (a .unit)
-notEntered a (Hour h) = not (a .unit)
-notEntered a (Load l) = not (a .area)
-notEntered a (Post p) = not (a .area)
+notEntered a r =
+    (isOneOf (unitFormat ∷ loadFormat ∷ postFormat ∷ []) r && not (a .area))
+    || (isOneOf (commitmentFormat ∷ hourFormat ∷ []) r && not (a .unit))
 
 -- row 8: the unit of a Unit record is already entered
 abbrev pub secondUnit : Asked → Record → Bool
@@ -101,7 +69,7 @@ secondUnit a r = ofUnit false (λ u. a .unit) r
 
 -- row 9: kind 1 and derating ≥ I
 abbrev pub deratedOut : Asked → Record → Bool
-deratedOut a r = ofHour false (λ h. eqb (h .kind) 1 && leb (a .installed .0) (h .derating)) r
+deratedOut a r = ofHour false (λ h. eqb (h .kind) derated && leb (a .installed .0) (h .derating)) r
 
 -- row 10: not later, by day of the delivery year and then hour ending, than the unit's last accepted hour
 abbrev pub notLater : Asked → Record → Bool

@@ -3,54 +3,60 @@ use mathlib.Core.Bool.{Bool, false, cond}
 use mathlib.Core.List.{List}
 use Prim.Native.Nat.{ℕ, _-_}
 use Rattle.calendar.specs.Range.{within}
+use Rattle.records.specs.declared.format.AreaRecord.{AreaRecord}
+use Rattle.records.specs.declared.format.UnitRecord.{UnitRecord}
 use Rattle.records.specs.declared.format.Record.{Record}
-use Rattle.records.specs.declared.format.Record.the-variants.{Unframed, Year, Area, Unit, Commitment, Hour, Load, Post}
 use Rattle.records.specs.declared.refusal.Asked.{Asked}
 use Rattle.records.specs.Decoded.{decoded}
-use Rattle.records.specs.Kinds.{ofPost}
+use Rattle.records.specs.Format.{areaCount, unitCount, commitmentCount, partyCount}
+use Rattle.records.specs.Kinds.{ofArea, ofUnit, ofCommitment, ofHour, ofLoad, ofPost}
 use Rattle.records.specs.Refusal.{refusalOf}
 use Rattle.records.specs.Facts.{Facts, isEntered}
 use Rattle.records.specs.Dues.{unplacedIn}
 
--- The place of number n of 1 to most, counted from 0. A number out of range is given 0: row 6 refuses it before a row asks.
-unfoldable pub place : ℕ → ℕ → ℕ
-place most n = cond (within 1 most n) (n - 1) 0
+-- The index of number n of 1 to most, counted from 0. A number out of range is given 0: row 6 refuses it before a row asks.
+unfoldable pub index : ℕ → ℕ → ℕ
+index most n = cond (within 1 most n) (n - 1) 0
 
--- the places of the area and of the unit that a record names; for a record that names none, 0, and no row asks
+-- of an area, a unit, a commitment and a party
+abbrev pub areaIndex : ℕ → ℕ
+areaIndex n = index areaCount n
+
+abbrev pub unitIndex : ℕ → ℕ
+unitIndex n = index unitCount n
+
+abbrev pub numberIndex : ℕ → ℕ
+numberIndex n = index commitmentCount n
+
+abbrev pub partyIndex : ℕ → ℕ
+partyIndex n = index partyCount n
+
+-- the index of the area that a record names; for a record that names none, 0, and no row asks
 abbrev pub areaNamed : Record → ℕ
-areaNamed (Unframed f) = 0
-areaNamed (Year y) = 0
-areaNamed (Area a) = place 8 (a .area)
-areaNamed (Unit u) = place 8 (u .area)
-areaNamed (Commitment c) = 0
-areaNamed (Hour h) = 0
-areaNamed (Load l) = place 8 (l .area)
-areaNamed (Post p) = place 8 p
+areaNamed r =
+    areaIndex (ofArea (ofUnit (ofLoad (ofPost 0 (λ a. a) r) (λ l. l .area) r) (λ u. u .area) r) (λ a. a .area) r)
 
+-- and of the unit
 abbrev pub unitNamed : Record → ℕ
-unitNamed (Unframed f) = 0
-unitNamed (Year y) = 0
-unitNamed (Area a) = 0
-unitNamed (Unit u) = place 32 (u .unit)
-unitNamed (Commitment c) = place 32 (c .unit)
-unitNamed (Hour h) = place 32 (h .unit)
-unitNamed (Load l) = 0
-unitNamed (Post p) = 0
+unitNamed r = unitIndex (ofUnit (ofCommitment (ofHour 0 (λ h. h .unit) r) (λ c. c .unit) r) (λ u. u .unit) r)
 
 -- row 11 is asked of a Post
 abbrev pub postUnplaced : Facts → Record → Bool
-postUnplaced F r = ofPost false (λ a. unplacedIn F (place 8 a)) r
+postUnplaced F r = ofPost false (λ a. unplacedIn F (areaIndex a)) r
 
--- what the rows ask of a record
-abbrev pub asked : Facts → Record → Asked
-asked F r = record {
-  year = F .year;
-  area = isEntered (F .area (areaNamed r) .area);
-  unit = isEntered (F .unit (unitNamed r) .unit);
-  installed = F .unit (unitNamed r) .installed;
-  last = F .last (unitNamed r);
-  unplaced = postUnplaced F r;
+-- what the rows ask, of the area and the unit that a record names, the unit's last hour, and row 11
+abbrev pub askedOf : ℕ → AreaRecord → UnitRecord → ℕ → Bool → Asked
+askedOf year area unit last unplaced = record {
+  year = year;
+  area = isEntered (area .area);
+  unit = isEntered (unit .unit);
+  installed = unit .rating .installed;
+  last = last;
+  unplaced = unplaced;
 }
+
+abbrev pub asked : Facts → Record → Asked
+asked F r = askedOf (F .year) (F .area (areaNamed r)) (F .unit (unitNamed r)) (F .last (unitNamed r)) (postUnplaced F r)
 
 -- the number of a string: that of the first row that fits, 0 where none does
 unfoldable pub refusal : Facts → List ℕ → ℕ

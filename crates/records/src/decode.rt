@@ -1,20 +1,30 @@
 // From bytes to a record.
+use crate::format::AREA_BYTES;
 use crate::format::AreaRecord;
+use crate::format::COMMITMENT_BYTES;
 use crate::format::CommitmentRecord;
 use crate::format::Fault;
+use crate::format::HOUR_BYTES;
 use crate::format::HourRecord;
+use crate::format::LOAD_BYTES;
 use crate::format::LoadRecord;
+use crate::format::POST_BYTES;
 use crate::format::Record;
+use crate::format::UNIT_BYTES;
 use crate::format::UnitRecord;
+use crate::format::YEAR_BYTES;
 use settlement::InstalledWatts;
+use settlement::capacity::Rating;
 ghost use mathlib.Core.Path.{_≡_};
 ghost use mathlib.Core.Bool.{false};
 ghost use Prim.Native.Nat.{_+_, _≤_, _<_};
 ghost use lib.ListN.{length};
 ghost use Rattle.records.specs.declared.format.Record.the-variants.{Year, Area, Unit, Commitment, Hour, Load, Post};
-ghost use Rattle.records.specs.Format.{numberAt, valueOf, yearYear, postArea};
+ghost use Rattle.settlement.specs.Lists.{element};
+ghost use Rattle.records.specs.Format.{numberAt, bytesOf, valuesOf};
 ghost use Rattle.records.specs.Format.{yearFormat, areaFormat, unitFormat, commitmentFormat, hourFormat, loadFormat, postFormat};
-ghost use Rattle.records.specs.Decoded.{isBroken, ofLength, areaRecord, unitRecord, commitmentRecord, hourRecord, loadRecord, framed, decoded};
+ghost use Rattle.records.specs.Kinds.{areaFrom, unitFrom, commitmentFrom, hourFrom, loadFrom};
+ghost use Rattle.records.specs.Decoded.{isBroken, ofLength, framed, decoded};
 ghost use Rattle.records.specs.Hours.{noHour, hourOf};
 
 fn byte(s: &[u8], from: usize) -> u32
@@ -57,9 +67,9 @@ fn is_broken(s: &[u8]) -> bool
 // A framed string of each kind: the record, if the length is that kind's.
 fn year(s: &[u8]) -> Record
     requires { ⌜ isBroken (now s) ≡ false ⌝ }
-    ensures { λ r. ⌜ r ≡ ofLength yearFormat (now (s .entry)) (Year (valueOf (now (s .entry)) yearYear)) ⌝ }
+    ensures { λ r. ⌜ r ≡ ofLength yearFormat (now (s .entry)) (λ l. Year (element l 0)) ⌝ }
 {
-    if s.len() != 5 {
+    if s.len() != YEAR_BYTES {
         return Record::Unframed(Fault::WrongLength);
     }
     Record::Year(pair(s, 3))
@@ -67,9 +77,9 @@ fn year(s: &[u8]) -> Record
 
 fn area(s: &[u8]) -> Record
     requires { ⌜ isBroken (now s) ≡ false ⌝ }
-    ensures { λ r. ⌜ r ≡ ofLength areaFormat (now (s .entry)) (Area (areaRecord (now (s .entry)))) ⌝ }
+    ensures { λ r. ⌜ r ≡ ofLength areaFormat (now (s .entry)) (λ l. Area (areaFrom l)) ⌝ }
 {
-    if s.len() != 8 {
+    if s.len() != AREA_BYTES {
         return Record::Unframed(Fault::WrongLength);
     }
     Record::Area(AreaRecord {
@@ -80,27 +90,29 @@ fn area(s: &[u8]) -> Record
 
 fn unit(s: &[u8]) -> Record
     requires { ⌜ isBroken (now s) ≡ false ⌝ }
-    ensures { λ r. ⌜ r ≡ ofLength unitFormat (now (s .entry)) (Unit (unitRecord (now (s .entry)))) ⌝ }
+    ensures { λ r. ⌜ r ≡ ofLength unitFormat (now (s .entry)) (λ l. Unit (unitFrom l)) ⌝ }
 {
-    if s.len() != 22 {
+    if s.len() != UNIT_BYTES {
         return Record::Unframed(Fault::WrongLength);
     }
     Record::Unit(UnitRecord {
         unit: byte(s, 3),
         area: byte(s, 4),
-        installed: InstalledWatts::new(quad(s, 5) as u64),
-        e: quad(s, 9),
-        f: quad(s, 13),
-        g: quad(s, 17),
-        class: byte(s, 21),
+        rating: Rating {
+            installed: InstalledWatts::new(quad(s, 5) as u64),
+            eford: quad(s, 9),
+            eford5: quad(s, 13),
+            efordyear: quad(s, 17),
+            class: byte(s, 21),
+        },
     })
 }
 
 fn commitment(s: &[u8]) -> Record
     requires { ⌜ isBroken (now s) ≡ false ⌝ }
-    ensures { λ r. ⌜ r ≡ ofLength commitmentFormat (now (s .entry)) (Commitment (commitmentRecord (now (s .entry)))) ⌝ }
+    ensures { λ r. ⌜ r ≡ ofLength commitmentFormat (now (s .entry)) (λ l. Commitment (commitmentFrom l)) ⌝ }
 {
-    if s.len() != 14 {
+    if s.len() != COMMITMENT_BYTES {
         return Record::Unframed(Fault::WrongLength);
     }
     Record::Commitment(CommitmentRecord {
@@ -114,8 +126,8 @@ fn commitment(s: &[u8]) -> Record
 }
 
 fn hour_fields(s: &[u8]) -> HourRecord
-    requires { ⌜ 12 ≤ length (now s) ⌝ }
-    ensures { λ r. ⌜ r ≡ hourRecord (now (s .entry)) ⌝ }
+    requires { ⌜ bytesOf hourFormat ≤ length (now s) ⌝ }
+    ensures { λ r. ⌜ r ≡ hourFrom (valuesOf hourFormat (now (s .entry))) ⌝ }
 {
     HourRecord {
         unit: byte(s, 3),
@@ -129,9 +141,9 @@ fn hour_fields(s: &[u8]) -> HourRecord
 
 fn hour(s: &[u8]) -> Record
     requires { ⌜ isBroken (now s) ≡ false ⌝ }
-    ensures { λ r. ⌜ r ≡ ofLength hourFormat (now (s .entry)) (Hour (hourRecord (now (s .entry)))) ⌝ }
+    ensures { λ r. ⌜ r ≡ ofLength hourFormat (now (s .entry)) (λ l. Hour (hourFrom l)) ⌝ }
 {
-    if s.len() != 12 {
+    if s.len() != HOUR_BYTES {
         return Record::Unframed(Fault::WrongLength);
     }
     Record::Hour(hour_fields(s))
@@ -139,9 +151,9 @@ fn hour(s: &[u8]) -> Record
 
 fn load(s: &[u8]) -> Record
     requires { ⌜ isBroken (now s) ≡ false ⌝ }
-    ensures { λ r. ⌜ r ≡ ofLength loadFormat (now (s .entry)) (Load (loadRecord (now (s .entry)))) ⌝ }
+    ensures { λ r. ⌜ r ≡ ofLength loadFormat (now (s .entry)) (λ l. Load (loadFrom l)) ⌝ }
 {
-    if s.len() != 9 {
+    if s.len() != LOAD_BYTES {
         return Record::Unframed(Fault::WrongLength);
     }
     Record::Load(LoadRecord {
@@ -153,9 +165,9 @@ fn load(s: &[u8]) -> Record
 
 fn post(s: &[u8]) -> Record
     requires { ⌜ isBroken (now s) ≡ false ⌝ }
-    ensures { λ r. ⌜ r ≡ ofLength postFormat (now (s .entry)) (Post (valueOf (now (s .entry)) postArea)) ⌝ }
+    ensures { λ r. ⌜ r ≡ ofLength postFormat (now (s .entry)) (λ l. Post (element l 0)) ⌝ }
 {
-    if s.len() != 4 {
+    if s.len() != POST_BYTES {
         return Record::Unframed(Fault::WrongLength);
     }
     Record::Post(byte(s, 3))
@@ -188,6 +200,11 @@ pub fn decode(s: &[u8]) -> Record
     framed(s)
 }
 
+// The tag of an Hour, and the length that it states.
+const HOUR_TAG: u32 = 5;
+
+const HOUR_LENGTH: u32 = 9;
+
 fn no_hour() -> HourRecord
     ensures { λ r. ⌜ r ≡ noHour ⌝ }
 {
@@ -205,13 +222,13 @@ fn no_hour() -> HourRecord
 pub fn hour_of(s: &[u8]) -> HourRecord
     ensures { λ r. ⌜ r ≡ hourOf (now (s .entry)) ⌝ }
 {
-    if s.len() != 12 {
+    if s.len() != HOUR_BYTES {
         return no_hour();
     }
-    if byte(s, 0) != 5 {
+    if byte(s, 0) != HOUR_TAG {
         return no_hour();
     }
-    if pair(s, 1) != 9 {
+    if pair(s, 1) != HOUR_LENGTH {
         return no_hour();
     }
     hour_fields(s)

@@ -1,5 +1,29 @@
 // What a record holds, by kind. specs/Format.antt has each field's place and range.
-use settlement::InstalledWatts;
+use settlement::capacity::Rating;
+
+// Areas, units, commitments and parties are numbered from 1 to these.
+pub(crate) const AREAS: u64 = 8;
+
+pub(crate) const UNITS: u64 = 32;
+
+pub(crate) const COMMITMENTS: u64 = 64;
+
+pub(crate) const PARTIES: u64 = 16;
+
+// The bytes of a record of each kind: three of tag and length, and its value.
+pub(crate) const YEAR_BYTES: usize = 5;
+
+pub(crate) const AREA_BYTES: usize = 8;
+
+pub(crate) const UNIT_BYTES: usize = 22;
+
+pub(crate) const COMMITMENT_BYTES: usize = 14;
+
+pub const HOUR_BYTES: usize = 12;
+
+pub(crate) const LOAD_BYTES: usize = 9;
+
+pub(crate) const POST_BYTES: usize = 4;
 
 pub struct AreaRecord {
     pub area: u32,
@@ -10,12 +34,7 @@ pub struct AreaRecord {
 pub struct UnitRecord {
     pub unit: u32,
     pub area: u32,
-    pub installed: InstalledWatts,
-    // Outage rates in hundred-thousandths: effective EFORd, EFORd-5, and EFORd from the year's own outages.
-    pub e: u32,
-    pub f: u32,
-    pub g: u32,
-    pub class: u32,
+    pub rating: Rating,
 }
 
 pub struct CommitmentRecord {

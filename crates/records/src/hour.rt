@@ -19,6 +19,14 @@ fn is_peak(year: u32, h: HourRecord) -> bool
     is_delivery_peak(year, h.month, h.day, h.hour)
 }
 
+// Kinds of hour that a rule names: in service with a forced derating while called upon, in service with a derating excused,
+// and full forced outage while called upon. Those up to EXCUSED are in service.
+pub(crate) const DERATED: u32 = 1;
+
+const EXCUSED: u32 = 2;
+
+const FORCED_OUT: u32 = 3;
+
 // An hour, as SH and FOH count it.
 const HOUR: u64 = 1;
 
@@ -29,7 +37,7 @@ pub fn service_hour(year: u32, h: HourRecord) -> u64
     if !is_peak(year, h) {
         return 0;
     }
-    if h.kind <= 2 {
+    if h.kind <= EXCUSED {
         return HOUR;
     }
     0
@@ -41,7 +49,7 @@ pub fn outage_hour(year: u32, h: HourRecord) -> u64
     if !is_peak(year, h) {
         return 0;
     }
-    if h.kind == 3 {
+    if h.kind == FORCED_OUT {
         return HOUR;
     }
     0
@@ -53,7 +61,7 @@ pub fn derated_watts(year: u32, h: HourRecord) -> u64
     if !is_peak(year, h) {
         return 0;
     }
-    if h.kind == 1 {
+    if h.kind == DERATED {
         return h.derating as u64;
     }
     0

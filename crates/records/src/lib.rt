@@ -3,8 +3,8 @@
 pub mod decode;
 pub mod format;
 pub mod hour;
+pub mod indices;
 pub mod laws;
-pub mod places;
 mod ranges;
 pub mod refusal;
 pub mod stream;

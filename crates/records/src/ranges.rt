@@ -1,42 +1,84 @@
-// The ranges of each kind's numbers: row 6.
+// Row 6: every number of a record in its field's range, and the record's own rule.
+use crate::format::AREAS;
 use crate::format::AreaRecord;
+use crate::format::COMMITMENTS;
 use crate::format::CommitmentRecord;
 use crate::format::HourRecord;
 use crate::format::LoadRecord;
+use crate::format::PARTIES;
+use crate::format::UNITS;
 use crate::format::UnitRecord;
+use crate::hour::DERATED;
 use calendar::delivery_year::delivery_days;
 use calendar::delivery_year::is_delivery_date;
 use calendar::range::within;
+use settlement::InstalledWatts;
+use settlement::capacity::Rating;
 ghost use mathlib.Core.Path.{_≡_};
-ghost use Rattle.records.specs.Format.{fits, areaArea, unitUnit, commitmentParty, unitE};
-ghost use Rattle.records.specs.Refusal.{areaFits, unitFits, commitmentFits, deratingFits, hourFits, loadFits};
+ghost use lib.ListN.{drop};
+ghost use Rattle.calendar.specs.Range.{within};
+ghost use Rattle.records.specs.declared.format.Record.the-variants.{Year, Area, Unit, Commitment, Hour, Load, Post};
+ghost use Rattle.records.specs.Format.{areaAt, unitAt, partyAt, rateAt, unitFormat, fieldsFit};
+ghost use Rattle.records.specs.Kinds.{ratingNumbers};
+ghost use Rattle.records.specs.Refusal.{numbersFit, deratingFits, inRange};
 
-pub(crate) fn is_area(n: u32) -> bool
-    ensures { λ r. ⌜ r ≡ fits areaArea n ⌝ }
+fn is_area(n: u32) -> bool
+    ensures { λ r. ⌜ r ≡ areaAt 0 .holds n ⌝ }
 {
-    within(1, 8, n as u64)
+    within(1, AREAS, n as u64)
 }
 
 fn is_unit(n: u32) -> bool
-    ensures { λ r. ⌜ r ≡ fits unitUnit n ⌝ }
+    ensures { λ r. ⌜ r ≡ unitAt 0 .holds n ⌝ }
 {
-    within(1, 32, n as u64)
+    within(1, UNITS, n as u64)
 }
 
 fn is_party(n: u32) -> bool
-    ensures { λ r. ⌜ r ≡ fits commitmentParty n ⌝ }
+    ensures { λ r. ⌜ r ≡ partyAt 0 .holds n ⌝ }
 {
-    within(1, 16, n as u64)
+    within(1, PARTIES, n as u64)
+}
+
+fn is_capacity(i: InstalledWatts) -> bool
+    ensures { λ r. ⌜ r ≡ within 1 5000000 (i .0) ⌝ }
+{
+    within(1, 5_000_000, i.watts())
 }
 
 fn is_rate(n: u32) -> bool
-    ensures { λ r. ⌜ r ≡ fits unitE n ⌝ }
+    ensures { λ r. ⌜ r ≡ rateAt 0 .holds n ⌝ }
 {
     within(0, 99_999, n as u64)
 }
 
+// The numbers of a Unit after its area.
+fn rating_fits(r: Rating) -> bool
+    ensures { λ t. ⌜ t ≡ fieldsFit (drop 2 (unitFormat .fields)) (ratingNumbers r) ⌝ }
+{
+    if !is_capacity(r.installed) {
+        return false;
+    }
+    if !is_rate(r.eford) {
+        return false;
+    }
+    if !is_rate(r.eford5) {
+        return false;
+    }
+    if !is_rate(r.efordyear) {
+        return false;
+    }
+    within(0, 2, r.class as u64)
+}
+
+pub(crate) fn year_fits(y: u32) -> bool
+    ensures { λ r. ⌜ r ≡ numbersFit (Year y) ⌝ }
+{
+    within(2007, 2099, y as u64)
+}
+
 pub(crate) fn area_fits(a: AreaRecord) -> bool
-    ensures { λ r. ⌜ r ≡ areaFits a ⌝ }
+    ensures { λ r. ⌜ r ≡ numbersFit (Area a) ⌝ }
 {
     if !is_area(a.area) {
         return false;
@@ -45,7 +87,7 @@ pub(crate) fn area_fits(a: AreaRecord) -> bool
 }
 
 pub(crate) fn unit_fits(u: UnitRecord) -> bool
-    ensures { λ r. ⌜ r ≡ unitFits u ⌝ }
+    ensures { λ r. ⌜ r ≡ numbersFit (Unit u) ⌝ }
 {
     if !is_unit(u.unit) {
         return false;
@@ -53,26 +95,13 @@ pub(crate) fn unit_fits(u: UnitRecord) -> bool
     if !is_area(u.area) {
         return false;
     }
-    let i = u.installed;
-    if !within(1, 5_000_000, i.watts()) {
-        return false;
-    }
-    if !is_rate(u.e) {
-        return false;
-    }
-    if !is_rate(u.f) {
-        return false;
-    }
-    if !is_rate(u.g) {
-        return false;
-    }
-    within(0, 2, u.class as u64)
+    rating_fits(u.rating)
 }
 
 pub(crate) fn commitment_fits(year: u32, c: CommitmentRecord) -> bool
-    ensures { λ r. ⌜ r ≡ commitmentFits year c ⌝ }
+    ensures { λ r. ⌜ r ≡ inRange year (Commitment c) ⌝ }
 {
-    if !within(1, 64, c.number as u64) {
+    if !within(1, COMMITMENTS, c.number as u64) {
         return false;
     }
     if !is_unit(c.unit) {
@@ -81,32 +110,29 @@ pub(crate) fn commitment_fits(year: u32, c: CommitmentRecord) -> bool
     if !is_party(c.party) {
         return false;
     }
+    if !within(0, 5_000_000, c.watts as u64) {
+        return false;
+    }
     if c.last < c.first {
         return false;
     }
-    if delivery_days(year) <= c.last {
-        return false;
-    }
-    within(0, 5_000_000, c.watts as u64)
+    c.last < delivery_days(year)
 }
 
-// At least 1 for kind 1, and 0 for other kinds.
+// At least 1 for a forced derating, and 0 for other kinds.
 fn derating_fits(h: HourRecord) -> bool
     ensures { λ r. ⌜ r ≡ deratingFits h ⌝ }
 {
-    if h.kind == 1 {
+    if h.kind == DERATED {
         return 1 <= h.derating;
     }
     h.derating == 0
 }
 
 pub(crate) fn hour_fits(year: u32, h: HourRecord) -> bool
-    ensures { λ r. ⌜ r ≡ hourFits year h ⌝ }
+    ensures { λ r. ⌜ r ≡ inRange year (Hour h) ⌝ }
 {
     if !is_unit(h.unit) {
-        return false;
-    }
-    if !is_delivery_date(year, h.month, h.day) {
         return false;
     }
     if !within(1, 24, h.hour as u64) {
@@ -115,11 +141,14 @@ pub(crate) fn hour_fits(year: u32, h: HourRecord) -> bool
     if !within(0, 5, h.kind as u64) {
         return false;
     }
+    if !is_delivery_date(year, h.month, h.day) {
+        return false;
+    }
     derating_fits(h)
 }
 
 pub(crate) fn load_fits(l: LoadRecord) -> bool
-    ensures { λ r. ⌜ r ≡ loadFits l ⌝ }
+    ensures { λ r. ⌜ r ≡ numbersFit (Load l) ⌝ }
 {
     if !is_area(l.area) {
         return false;
@@ -128,4 +157,10 @@ pub(crate) fn load_fits(l: LoadRecord) -> bool
         return false;
     }
     within(0, 100_000_000, l.obligation as u64)
+}
+
+pub(crate) fn post_fits(area: u32) -> bool
+    ensures { λ r. ⌜ r ≡ numbersFit (Post area) ⌝ }
+{
+    is_area(area)
 }

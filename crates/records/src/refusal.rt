@@ -6,21 +6,24 @@ use crate::format::HourRecord;
 use crate::format::LoadRecord;
 use crate::format::Record;
 use crate::format::UnitRecord;
+use crate::hour::DERATED;
 use crate::hour::hour_index;
 use crate::ranges::area_fits;
 use crate::ranges::commitment_fits;
 use crate::ranges::hour_fits;
-use crate::ranges::is_area;
 use crate::ranges::load_fits;
+use crate::ranges::post_fits;
 use crate::ranges::unit_fits;
-use calendar::range::within;
+use crate::ranges::year_fits;
 use settlement::InstalledWatts;
 ghost use mathlib.Core.Path.{_≡_};
-ghost use mathlib.Core.Bool.{_&&_};
+ghost use mathlib.Core.Bool.{false, _&&_};
 ghost use lib.Dec.{eqb, leb};
 ghost use Rattle.records.specs.declared.format.Record.the-variants.{Year, Area, Unit, Commitment, Hour, Load, Post};
-ghost use Rattle.records.specs.Decoded.{faultNumber};
+ghost use Rattle.records.specs.Kinds.{faultNumber};
+ghost use Rattle.records.specs.Hours.{derated};
 ghost use Rattle.records.specs.Refusal.{refusalOf};
+ghost use Rattle.records.specs.Rules.{askedOf};
 
 // What the rows ask, of the area and the unit that a record names.
 pub struct Asked {
@@ -35,6 +38,22 @@ pub struct Asked {
     pub last: u64,
     // Of a Post: whether money is left over and the area's obligations add up to 0.
     pub unplaced: bool,
+}
+
+// What rows 1 to 10 ask, of the area and the unit that a record names, and of the unit's last hour.
+pub fn asked_of(year: u32, area: AreaRecord, unit: UnitRecord, last: u64) -> Asked
+    ensures { λ r. ⌜ r ≡ askedOf year area unit last false ⌝ }
+{
+    let rating = unit.rating;
+    let installed = rating.installed;
+    Asked {
+        year,
+        area: 0 < area.area,
+        unit: 0 < unit.unit,
+        installed,
+        last,
+        unplaced: false,
+    }
 }
 
 fn fault(f: Fault) -> u32
@@ -53,7 +72,7 @@ fn year(a: Asked, y: u32) -> u32
     if a.year != 0 {
         return 5;
     }
-    if !within(2007, 2099, y as u64) {
+    if !year_fits(y) {
         return 6;
     }
     0
@@ -106,9 +125,9 @@ fn commitment(a: Asked, r: CommitmentRecord) -> u32
 
 // Row 9.
 fn derated_out(i: InstalledWatts, r: HourRecord) -> bool
-    ensures { λ t. ⌜ t ≡ (eqb (r .kind) 1 && leb (i .0) (r .derating)) ⌝ }
+    ensures { λ t. ⌜ t ≡ (eqb (r .kind) derated && leb (i .0) (r .derating)) ⌝ }
 {
-    if r.kind != 1 {
+    if r.kind != DERATED {
         return false;
     }
     i.watts() <= r.derating as u64
@@ -157,7 +176,7 @@ fn post(a: Asked, r: u32) -> u32
     if a.year == 0 {
         return 4;
     }
-    if !is_area(r) {
+    if !post_fits(r) {
         return 6;
     }
     if !a.area {

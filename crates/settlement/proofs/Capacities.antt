@@ -10,12 +10,15 @@ use lib.Dec.{eqb, ltb, leb→le, le→leb}
 use borrow.Author.Tests.{ltb-true, ltb-false, le-ltb, leb-true}
 use Rattle.calendar.specs.Sum.{sumBelow}
 use Rattle.calendar.proofs.Tests.{within-from, within-to}
-use Rattle.settlement.specs.declared.capacity.UnitFacts.{UnitFacts}
+use Rattle.settlement.specs.declared.capacity.Rating.{Rating}
+use Rattle.settlement.specs.declared.capacity.HourCounts.{HourCounts}
 use Rattle.settlement.specs.Signed.{above, below}
 use Rattle.settlement.specs.Capacity.{unitWattDays, partOf, wattDaysOf, committed, unforced, peakRated, available, quarters, limit, limited}
-use Rattle.settlement.specs.Capacity.{unitShortfall, unitLimit, limitedShortfall, ratesInRange, hoursInRange, unitInRange, yearInRange}
-use Rattle.settlement.specs.Money.{wattsInRange, areaInRange}
-use Rattle.settlement.proofs.Tests.{both-true}
+use Rattle.settlement.specs.Capacity.{unitCommitted, unitShortfall, unitLimit, limitedShortfall}
+use Rattle.settlement.specs.Capacity.{installedMost, rateMost, hoursMost, wattDaysMost, ratesInRange, hoursInRange, unitInRange, yearInRange}
+use Rattle.settlement.specs.Shares.{netMost}
+use Rattle.settlement.specs.Money.{obligationsMost, wattsInRange, areaInRange}
+use Rattle.settlement.proofs.Tests.{both-true, at-most-and}
 use Rattle.settlement.proofs.Sums.{sum-same, sum-exchange, sum-picked}
 use Rattle.settlement.proofs.Sizes.{difference-size}
 
@@ -96,86 +99,76 @@ limited-size l (pos s) = go (ltb l s) refl
     go false q = le-refl s
 limited-size l (negsuc x) = le-refl (suc x)
 
-pub unit-shortfall-size : (u : UnitFacts) (t : ℕ) → natAbs (unitShortfall u t) ≤ t
+pub unit-shortfall-size : (r : Rating) (h : HourCounts) (t : ℕ) → natAbs (unitShortfall r h t) ≤ t
 unfolding unitShortfall
-unit-shortfall-size u t =
-    le-trans (difference-size (unforced t (u .f)) _)
-    (max-le (unforced-at-most t (u .f)) (available-at-most t (u .installed .0) (u .g) (u .sh) (u .foh) (u .d)))
+unit-shortfall-size r h t =
+    le-trans (difference-size (unforced t (r .eford5)) _) (max-le (unforced-at-most t (r .eford5)) (available-at-most _ _ _ _ _ _))
 
-pub limited-shortfall-size : (u : UnitFacts) (v days : ℕ) → natAbs (limitedShortfall u v days) ≤ u .installed .0
+pub limited-shortfall-size : (r : Rating) (h : HourCounts) (v days : ℕ) → natAbs (limitedShortfall r h v days) ≤ r .installed .0
 unfolding limitedShortfall
-limited-shortfall-size u v days =
-    let t : ℕ = committed (u .installed .0) (u .e) v days in
-    le-trans (limited-size (unitLimit u) (unitShortfall u t)) (le-trans (unit-shortfall-size u t) (committed-at-most _ _ _ _))
+limited-shortfall-size r h v days =
+    let t : ℕ = unitCommitted r v days in
+    le-trans (limited-size (unitLimit r) (unitShortfall r h t)) (le-trans (unit-shortfall-size r h t) (committed-at-most _ _ _ _))
 
--- what a unit's facts in range have
-pub record UnitRange (u : UnitFacts) : Type 0 where
-  pub installed-from : 1 ≤ u .installed .0
-  pub installed-to : u .installed .0 ≤ 5000000
-  pub e-to : u .e ≤ 99999
-  pub f-to : u .f ≤ 99999
-  pub g-to : u .g ≤ 99999
-  pub class-to : u .class ≤ 2
-  pub sh-to : u .sh ≤ 8784
-  pub foh-to : u .foh ≤ 8784
-  pub d-to : u .d ≤ u .sh * u .installed .0
+-- what a rating and hours in range have
+pub record UnitRange (r : Rating) (h : HourCounts) : Type 0 where
+  pub installed-from : 1 ≤ r .installed .0
+  pub installed-to : r .installed .0 ≤ installedMost
+  pub eford-to : r .eford ≤ rateMost
+  pub eford5-to : r .eford5 ≤ rateMost
+  pub efordyear-to : r .efordyear ≤ rateMost
+  pub service-to : h .service ≤ hoursMost
+  pub outage-to : h .outage ≤ hoursMost
+  pub derated-to : h .derated ≤ h .service * r .installed .0
 
-pub unit-range : (u : UnitFacts) → unitInRange u ≡ true → UnitRange u
+pub unit-range : {r : Rating} {h : HourCounts} → unitInRange r h ≡ true → UnitRange r h
 unfolding unitInRange ratesInRange hoursInRange
-unit-range u q =
+unit-range q =
     let (i, q₁) = both-true q in
     let (rates, hours) = both-true q₁ in
-    let (e, q₂) = both-true rates in
-    let (f, q₃) = both-true q₂ in
-    let (g, class) = both-true q₃ in
-    let (sh, q₄) = both-true hours in
-    let (foh, d) = both-true q₄ in
+    let (e, q₂) = at-most-and rates in
+    let (f, q₃) = at-most-and q₂ in
+    let (sh, q₄) = at-most-and hours in
+    let (foh, d) = at-most-and q₄ in
     record {
-      installed-from = within-from 1 5000000 _ i;
-      installed-to = within-to 1 5000000 _ i;
-      e-to = leb-true _ _ e;
-      f-to = leb-true _ _ f;
-      g-to = leb-true _ _ g;
-      class-to = leb-true _ _ class;
-      sh-to = leb-true _ _ sh;
-      foh-to = leb-true _ _ foh;
-      d-to = leb-true _ _ d;
+      installed-from = within-from 1 installedMost _ i;
+      installed-to = within-to 1 installedMost _ i;
+      eford-to = e;
+      eford5-to = f;
+      efordyear-to = at-most-and q₃ .0;
+      service-to = sh;
+      outage-to = foh;
+      derated-to = leb-true _ _ d;
     }
 
 -- what watt-days and days in range have
 pub record YearRange (v days : ℕ) : Type 0 where
-  pub v-to : v ≤ 117120000000
+  pub v-to : v ≤ wattDaysMost
   pub days-from : 365 ≤ days
   pub days-to : days ≤ 366
 
 pub year-range : (v days : ℕ) → yearInRange v days ≡ true → YearRange v days
 unfolding yearInRange
 year-range v days q =
-    let (e, d) = both-true q in
-    record { v-to = leb-true _ _ e; days-from = within-from 365 366 _ d; days-to = within-to 365 366 _ d }
+    let (v-to, d) = at-most-and q in
+    record { v-to = v-to; days-from = within-from 365 366 _ d; days-to = within-to 365 366 _ d }
 
-pub ranges : (u : UnitFacts) (v days : ℕ) → (unitInRange u && yearInRange v days) ≡ true → UnitRange u × YearRange v days
-ranges u v days q = let (unit, year) = both-true q in (unit-range u unit, year-range v days year)
+pub ranges : {r : Rating} {h : HourCounts} {v days : ℕ} → (unitInRange r h && yearInRange v days) ≡ true → UnitRange r h × YearRange v days
+ranges q = let (unit, year) = both-true q in (unit-range unit, year-range _ _ year)
 
 -- what an area's facts in range have
 pub record AreaRange (N : ℕ → ℤ) (price days : ℕ) (o : ℕ → ℕ) : Type 0 where
-  pub shortfalls-to : sumBelow 16 (λ p. above (N p)) ≤ 160000000
-  pub excesses-to : sumBelow 16 (λ p. below (N p)) ≤ 160000000
+  pub shortfalls-to : sumBelow 16 (λ p. above (N p)) ≤ netMost
+  pub excesses-to : sumBelow 16 (λ p. below (N p)) ≤ netMost
   pub price-to : price ≤ 50000
   pub days-to : days ≤ 366
-  pub obligations-to : sumBelow 16 o ≤ 1600000000
+  pub obligations-to : sumBelow 16 o ≤ obligationsMost
 
 pub area-range : (N : ℕ → ℤ) (price days : ℕ) (o : ℕ → ℕ) → areaInRange N price days o ≡ true → AreaRange N price days o
 unfolding areaInRange wattsInRange
 area-range N price days o q =
-    let (p, q₁) = both-true q in
-    let (d, q₂) = both-true q₁ in
-    let (w, q₃) = both-true q₂ in
-    let (s, x) = both-true q₃ in
-    record {
-      shortfalls-to = leb-true _ _ s;
-      excesses-to = leb-true _ _ x;
-      price-to = leb-true _ _ p;
-      days-to = leb-true _ _ d;
-      obligations-to = leb-true _ _ w;
-    }
+    let (p, q₁) = at-most-and q in
+    let (d, q₂) = at-most-and q₁ in
+    let (w, q₃) = at-most-and q₂ in
+    let (s, x) = at-most-and q₃ in
+    record { shortfalls-to = s; excesses-to = leb-true _ _ x; price-to = p; days-to = d; obligations-to = w }

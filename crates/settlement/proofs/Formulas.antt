@@ -1,64 +1,56 @@
 -- The formulas' values in range fit 64 bits, and each is what its definition says.
 use mathlib.Core.Path.{_≡_}
-use mathlib.Core.Bool.{true}
 use Prim.Native.Nat.{ℕ, _+_, _-_, _*_, _/_, _≤_, _<_}
 use native.Mathlib.Nat.{le-trans, not-suc-le-zero, mul-pos, mul-le-mul, div-le-self}
 use native.Mathlib.Omega.{arith}
 use lib.IntN.{ℤ, pos, negsuc}
 use borrow.Author.Tests.{lt-ltb}
-use Rattle.settlement.specs.declared.capacity.UnitFacts.{UnitFacts}
+use Rattle.settlement.specs.declared.capacity.Rating.{Rating}
+use Rattle.settlement.specs.declared.capacity.HourCounts.{HourCounts}
 use Rattle.settlement.specs.Signed.{above}
-use Rattle.settlement.specs.Capacity.{limited, unitInRange}
-use Rattle.settlement.proofs.Capacities.{UnitRange, unit-range}
-use Rattle.settlement.proofs.Bounds.{priced-bound}
+use Rattle.settlement.specs.Capacity.{limited, installedMost, rateMost}
+use Rattle.settlement.specs.Shares.{netMost}
+use Rattle.settlement.proofs.Capacities.{UnitRange}
+use Rattle.settlement.proofs.Bounds.{service-fits, rated-whole, priced-bound}
 
-pub watt-days-fit : {watts last : ℕ} (first : ℕ) → watts ≤ 5000000 → last ≤ 365 → watts * (last - first + 1) ≤ 1830000000
-watt-days-fit first h k = mul-le-mul {n₂ = 5000000} {m₂ = 366} h (omega arith)
-
-pub unforced-fits : {w : ℕ} (rate : ℕ) → w ≤ 5000000 → w * (100000 - rate) ≤ 500000000000
-unforced-fits rate h = mul-le-mul {n₂ = 5000000} {m₂ = 100000} h (omega arith)
-
-pub service-fits : {sh i : ℕ} → sh ≤ 8784 → i ≤ 5000000 → sh * i ≤ 43920000000
-service-fits h k = mul-le-mul {n₂ = 8784} {m₂ = 5000000} h k
+pub unforced-fits : {w : ℕ} (rate : ℕ) → w ≤ installedMost → w * (100000 - rate) ≤ 500000000000
+unforced-fits rate h = mul-le-mul {n₂ = installedMost} {m₂ = 100000} h (omega arith)
 
 -- T × (SH × I − D) / (I × (SH + FOH)), step by step
-pub record RatedFits (t : ℕ) (u : UnitFacts) : Type 0 where
-  pub service : u .sh * u .installed .0 ≤ 43920000000
-  pub derated : u .d ≤ u .sh * u .installed .0
-  pub whole : t * (u .sh * u .installed .0 - u .d) ≤ 219600000000000000
-  pub hours : u .sh + u .foh ≤ 17568
-  pub divisor : u .installed .0 * (u .sh + u .foh) ≤ 87840000000
-  pub some : 0 < u .installed .0 * (u .sh + u .foh)
-  pub floor : t * (u .sh * u .installed .0 - u .d) / (u .installed .0 * (u .sh + u .foh)) ≤ 219600000000000000
+pub record RatedFits (t : ℕ) (r : Rating) (h : HourCounts) : Type 0 where
+  pub service : h .service * r .installed .0 ≤ 43920000000
+  pub derated : h .derated ≤ h .service * r .installed .0
+  pub whole : t * (h .service * r .installed .0 - h .derated) ≤ 219600000000000000
+  pub hours : h .service + h .outage ≤ 17568
+  pub divisor : r .installed .0 * (h .service + h .outage) ≤ 87840000000
+  pub some : 0 < r .installed .0 * (h .service + h .outage)
+  pub floor : t * (h .service * r .installed .0 - h .derated) / (r .installed .0 * (h .service + h .outage)) ≤ 219600000000000000
 
-pub rated-fits : {t : ℕ} {u : UnitFacts} → t ≤ 5000000 → unitInRange u ≡ true → 0 < u .sh + u .foh → RatedFits t u
-rated-fits {t} {u} h q b =
-    let r : UnitRange u = unit-range u q in
-    let service : u .sh * u .installed .0 ≤ 43920000000 = service-fits (r .sh-to) (r .installed-to) in
-    let whole : t * (u .sh * u .installed .0 - u .d) ≤ 219600000000000000 = mul-le-mul {n₂ = 5000000} {m₂ = 43920000000} h (omega arith) in
+pub rated-fits : {t : ℕ} {r : Rating} {h : HourCounts} → t ≤ installedMost → UnitRange r h → 0 < h .service + h .outage → RatedFits t r h
+rated-fits few u b =
     record {
-      service = service;
-      derated = r .d-to;
-      whole = whole;
+      service = service-fits (u .service-to) (u .installed-to);
+      derated = u .derated-to;
+      whole = rated-whole few u;
       hours = omega arith;
-      divisor = mul-le-mul {n₂ = 5000000} {m₂ = 17568} (r .installed-to) (omega arith);
-      some = mul-pos (r .installed-from) b;
-      floor = le-trans (div-le-self _ _) whole;
+      divisor = mul-le-mul {n₂ = installedMost} {m₂ = 17568} (u .installed-to) (omega arith);
+      some = mul-pos (u .installed-from) b;
+      floor = le-trans (div-le-self _ _) (rated-whole few u);
     }
 
 pub record CommittedFits (e days : ℕ) : Type 0 where
   pub divisor : (100000 - e) * days ≤ 36600000
   pub some : 0 < (100000 - e) * days
 
-pub committed-fits : {e days : ℕ} → e ≤ 99999 → 365 ≤ days → days ≤ 366 → CommittedFits e days
+pub committed-fits : {e days : ℕ} → e ≤ rateMost → 365 ≤ days → days ≤ 366 → CommittedFits e days
 committed-fits {e} {days} he from to =
     record {
       divisor = mul-le-mul {n₂ = 100000} {m₂ = 366} (omega arith) to;
       some = mul-pos (omega arith) (omega arith);
     }
 
-pub limit-fits : {u q : ℕ} → u ≤ 5000000 → q ≤ 4 → u * q ≤ 20000000
-limit-fits h k = mul-le-mul {n₂ = 5000000} {m₂ = 4} h k
+pub limit-fits : {u q : ℕ} → u ≤ installedMost → q ≤ 4 → u * q ≤ 20000000
+limit-fits h k = mul-le-mul {n₂ = installedMost} {m₂ = 4} h k
 
 -- a shortfall above the limit
 pub over-limit : (l : ℕ) (s : ℤ) → l < above s → limited l s ≡ pos l
@@ -70,5 +62,5 @@ pub record PricedFits (watts price days : ℕ) : Type 0 where
   pub once : watts * price ≤ 8000000000000
   pub whole : watts * price * days ≤ 2928000000000000
 
-pub priced-fits : {watts price days : ℕ} → watts ≤ 160000000 → price ≤ 50000 → days ≤ 366 → PricedFits watts price days
-priced-fits w p d = record { once = mul-le-mul {n₂ = 160000000} {m₂ = 50000} w p; whole = priced-bound _ _ _ w p d }
+pub priced-fits : {watts price days : ℕ} → watts ≤ netMost → price ≤ 50000 → days ≤ 366 → PricedFits watts price days
+priced-fits w p d = record { once = mul-le-mul {n₂ = netMost} {m₂ = 50000} w p; whole = priced-bound _ _ _ w p d }

@@ -15,4 +15,3 @@ pub mod Formulas
 pub mod Nets
 pub mod Dues
 pub mod Sixteen
-pub mod Lines

@@ -4,7 +4,7 @@ use mathlib.Core.Bool.{Bool, true, false}
 use Prim.Native.Nat.{ℕ, zero, suc, _+_, _-_, _≤_, _<_, min}
 use native.Mathlib.Nat.{le-refl}
 use native.Mathlib.Omega.{arith}
-use lib.IntN.{ℤ, pos, negsuc, negℤ, subℕ, _+ℤ_}
+use lib.IntN.{ℤ, pos, negsuc, negℤ, subℕ, _+ℤ_, _-ℤ_}
 use lib.Signed.{_≤ℤ_}
 use lib.Dec.{ltb, leb→le, le→leb}
 use borrow.Author.Tests.{ltb-true, ltb-false, le-ltb, lt-ltb}
@@ -88,6 +88,13 @@ add-differences a b c d =
   where
     parts : (above (subℕ a b) ≡ a - b) × (above (subℕ c d) ≡ c - d) × (below (subℕ a b) ≡ b - a) × (below (subℕ c d) ≡ d - c)
     parts = (above-difference a b, above-difference c d, below-difference a b, below-difference c d)
+
+-- a sum and a difference by the parts of their terms
+pub sum-parts : (x y : ℤ) → subℕ (above x + above y) (below x + below y) ≡ x +ℤ y
+sum-parts x y = sym (add-differences (above x) (below x) (above y) (below y)) ∙ rw (← signed-parts x, ← signed-parts y)
+
+pub difference-parts : (x y : ℤ) → subℕ (above x + below y) (below x + above y) ≡ x -ℤ y
+difference-parts x y = rw (← above-negated y, ← below-negated y) (sum-parts x (negℤ y))
 
 pub equal-difference : (a : ℕ) → subℕ a a ≡ pos 0
 equal-difference a = rw (le-ltb a a (le-refl a)) (ap pos (omega arith))

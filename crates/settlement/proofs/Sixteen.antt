@@ -2,7 +2,8 @@
 use mathlib.Core.Path.{_≡_, ap}
 use Prim.Native.Nat.{ℕ, _<_}
 use lib.IntN.{ℤ}
-use Rattle.settlement.specs.declared.capacity.UnitFacts.{UnitFacts}
+use Rattle.settlement.specs.declared.capacity.Rating.{Rating}
+use Rattle.settlement.specs.declared.capacity.HourCounts.{HourCounts}
 use Rattle.settlement.specs.Signed.{above, below}
 use Rattle.settlement.specs.Quantities.{cents}
 use Rattle.settlement.specs.Capacity.{wattDaysOf}
@@ -18,10 +19,10 @@ pub watt-days-same : (w v : ℕ → ℕ) → ((p : ℕ) → p < 16 → w p ≡ v
 unfolding wattDaysOf
 watt-days-same w v same = sum-same 16 w v same
 
-pub shares-same : (u : UnitFacts) (w v : ℕ → ℕ) (days : ℕ) → ((p : ℕ) → p < 16 → w p ≡ v p)
-    → (p : ℕ) → p < 16 → unitShare u w days p ≡ unitShare u v days p
+pub shares-same : (r : Rating) (hours : HourCounts) (w v : ℕ → ℕ) (days : ℕ) → ((p : ℕ) → p < 16 → w p ≡ v p)
+    → (p : ℕ) → p < 16 → unitShare r hours w days p ≡ unitShare r hours v days p
 unfolding unitShare splitSigned
-shares-same u w v days same p h = rw (watt-days-same w v same, split-same _ 16 w v same p h)
+shares-same r hours w v days same p h = rw (watt-days-same w v same, split-same _ 16 w v same p h)
 
 watts-range-same : (N N' : ℕ → ℤ) → ((p : ℕ) → p < 16 → N p ≡ N' p) → wattsInRange N ≡ wattsInRange N'
 unfolding wattsInRange

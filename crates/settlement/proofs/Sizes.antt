@@ -1,9 +1,12 @@
 -- Laws of the sizes of signed amounts, of differences and of sums.
 use mathlib.Core.Path.{_≡_, refl}
-use Prim.Native.Nat.{ℕ, zero, suc, _+_, _≤_, max, zero-le}
+use mathlib.Core.Bool.{cond, _&&_}
+use Prim.Native.Nat.{ℕ, zero, suc, _+_, _≤_, _<_, max, zero-le}
 use native.Mathlib.Nat.{le-refl}
 use native.Mathlib.Omega.{arith}
 use lib.IntN.{ℤ, pos, negsuc, natAbs, subℕ, negℤ, _+ℤ_, _-ℤ_}
+use lib.Dec.{leb}
+use borrow.Author.Tests.{le-leb, lt-leb}
 use Rattle.calendar.specs.Sum.{sumBelow}
 use Rattle.settlement.specs.Signed.{above, below, sumBelowℤ}
 use Rattle.settlement.specs.Split.{split, withSign, splitSigned}
@@ -36,6 +39,17 @@ negated-size (negsuc n) = refl
 
 pub less-size : (a b : ℤ) → natAbs (a -ℤ b) ≤ natAbs a + natAbs b
 less-size a b = omega (arith, add-size a (negℤ b), negated-size b)
+
+-- what is answered of two amounts that are held to a bound: z where both are within it, 0 where one is past it
+module _ (most : ℕ) (x y z : ℤ) where
+  pub both-within : natAbs x ≤ most → natAbs y ≤ most → z ≡ cond (leb (natAbs x) most && leb (natAbs y) most) z (pos 0)
+  both-within h k = simp (le-leb (natAbs x) most h, le-leb (natAbs y) most k)
+
+  pub first-past : most < natAbs x → pos 0 ≡ cond (leb (natAbs x) most && leb (natAbs y) most) z (pos 0)
+  first-past h = simp (lt-leb (natAbs x) most h)
+
+  pub second-past : natAbs x ≤ most → most < natAbs y → pos 0 ≡ cond (leb (natAbs x) most && leb (natAbs y) most) z (pos 0)
+  second-past h k = simp (le-leb (natAbs x) most h, lt-leb (natAbs y) most k)
 
 pub sum-size : (n : ℕ) (f : ℕ → ℤ) → natAbs (sumBelowℤ n f) ≤ sumBelow n (λ k. natAbs (f k))
 unfolding sumBelow sumBelowℤ

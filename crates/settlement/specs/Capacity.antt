@@ -7,7 +7,8 @@ use lib.IntN.{ℤ, pos, negsuc, subℕ}
 use lib.Dec.{eqb, ltb, leb}
 use Rattle.calendar.specs.Sum.{sumBelow}
 use Rattle.calendar.specs.Range.{within}
-use Rattle.settlement.specs.declared.capacity.UnitFacts.{UnitFacts}
+use Rattle.settlement.specs.declared.capacity.Rating.{Rating}
+use Rattle.settlement.specs.declared.capacity.HourCounts.{HourCounts}
 
 -- watts × (last − first + 1): one commitment's watt-days
 unfoldable pub wattDays : ℕ → ℕ → ℕ → ℕ
@@ -74,35 +75,61 @@ unfoldable pub limited : ℕ → ℤ → ℤ
 limited l (pos s) = cond (ltb l s) (pos l) (pos s)
 limited l (negsuc x) = negsuc x
 
--- a unit's S at T, from its facts
-unfoldable pub unitShortfall : UnitFacts → ℕ → ℤ
-unitShortfall u t = shortfall (expected t (u .f)) (available t (u .installed .0) (u .g) (u .sh) (u .foh) (u .d))
+-- a unit's T at V watt-days in a delivery year of so many days
+abbrev pub unitCommitted : Rating → ℕ → ℕ → ℕ
+unitCommitted r v days = committed (r .installed .0) (r .eford) v days
+
+-- its P and its S at T
+abbrev pub unitAvailable : Rating → HourCounts → ℕ → ℕ
+unitAvailable r h t = available t (r .installed .0) (r .efordyear) (h .service) (h .outage) (h .derated)
+
+unfoldable pub unitShortfall : Rating → HourCounts → ℕ → ℤ
+unitShortfall r h t = shortfall (expected t (r .eford5)) (unitAvailable r h t)
 
 -- its L
-unfoldable pub unitLimit : UnitFacts → ℕ
-unitLimit u = limit (unforcedCapacity (u .installed .0) (u .e)) (u .class)
+unfoldable pub unitLimit : Rating → ℕ
+unitLimit r = limit (unforcedCapacity (r .installed .0) (r .eford)) (r .class)
 
--- its limited S at V watt-days in a delivery year of so many days
-unfoldable pub limitedShortfall : UnitFacts → ℕ → ℕ → ℤ
-limitedShortfall u v days = limited (unitLimit u) (unitShortfall u (committed (u .installed .0) (u .e) v days))
+-- its limited S
+unfoldable pub limitedShortfall : Rating → HourCounts → ℕ → ℕ → ℤ
+limitedShortfall r h v days = limited (unitLimit r) (unitShortfall r h (unitCommitted r v days))
 
--- The ranges of 01, Records, and what follows from them: a year has at most 366 × 24 = 8,784 hours, each derating is
--- below I and counts in an hour of SH, and 64 commitments of 5,000,000 W on 366 days make 117,120,000,000 watt-days.
-unfoldable pub ratesInRange : UnitFacts → Bool
-ratesInRange u = leb (u .e) 99999 && (leb (u .f) 99999 && (leb (u .g) 99999 && leb (u .class) 2))
+-- The ranges of 01, Records, and what follows from them. I, in watts
+abbrev pub installedMost : ℕ
+installedMost = 5000000
 
-unfoldable pub hoursInRange : UnitFacts → Bool
-hoursInRange u = leb (u .sh) 8784 && (leb (u .foh) 8784 && leb (u .d) (u .sh * u .installed .0))
+-- e, f and g, in hundred-thousandths
+abbrev pub rateMost : ℕ
+rateMost = 99999
 
-unfoldable pub unitInRange : UnitFacts → Bool
-unitInRange u = within 1 5000000 (u .installed .0) && (ratesInRange u && hoursInRange u)
+-- a commitment, in watts
+abbrev pub commitmentMost : ℕ
+commitmentMost = 5000000
+
+-- SH and FOH: the hours of a year, 366 × 24
+abbrev pub hoursMost : ℕ
+hoursMost = 8784
+
+-- V: 64 commitments × 5,000,000 W × 366 days
+abbrev pub wattDaysMost : ℕ
+wattDaysMost = 117120000000
+
+unfoldable pub ratesInRange : Rating → Bool
+ratesInRange r = leb (r .eford) rateMost && (leb (r .eford5) rateMost && (leb (r .efordyear) rateMost && leb (r .class) 2))
+
+-- each derating is below I and counts in an hour of SH
+unfoldable pub hoursInRange : Rating → HourCounts → Bool
+hoursInRange r h = leb (h .service) hoursMost && (leb (h .outage) hoursMost && leb (h .derated) (h .service * r .installed .0))
+
+unfoldable pub unitInRange : Rating → HourCounts → Bool
+unitInRange r h = within 1 installedMost (r .installed .0) && (ratesInRange r && hoursInRange r h)
 
 unfoldable pub yearInRange : ℕ → ℕ → Bool
-yearInRange v days = leb v 117120000000 && within 365 366 days
+yearInRange v days = leb v wattDaysMost && within 365 366 days
 
 -- What the public functions answer; out of these ranges, 0.
 unfoldable pub wattDaysAnswer : ℕ → ℕ → ℕ → ℕ
-wattDaysAnswer watts first last = cond (leb watts 5000000 && (leb first last && leb last 365)) (wattDays watts first last) 0
+wattDaysAnswer watts first last = cond (leb watts commitmentMost && (leb first last && leb last 365)) (wattDays watts first last) 0
 
-unfoldable pub shortfallAnswer : UnitFacts → ℕ → ℕ → ℤ
-shortfallAnswer u v days = cond (unitInRange u && yearInRange v days) (limitedShortfall u v days) (pos 0)
+unfoldable pub shortfallAnswer : Rating → HourCounts → ℕ → ℕ → ℤ
+shortfallAnswer r h v days = cond (unitInRange r h && yearInRange v days) (limitedShortfall r h v days) (pos 0)

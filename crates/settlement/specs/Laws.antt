@@ -5,12 +5,14 @@ use Prim.Native.Nat.{ℕ, _+_, _-_, _*_, _^_, _≤_, _<_, min}
 use lib.IntN.{ℤ, pos, natAbs, _-ℤ_}
 use lib.Signed.{_≤ℤ_}
 use Rattle.calendar.specs.Sum.{sumBelow}
-use Rattle.settlement.specs.declared.capacity.UnitFacts.{UnitFacts}
+use Rattle.settlement.specs.declared.capacity.Rating.{Rating}
+use Rattle.settlement.specs.declared.capacity.HourCounts.{HourCounts}
 use Rattle.settlement.specs.Signed.{above, below, sumBelowℤ}
-use Rattle.settlement.specs.Capacity.{wattDays, unitWattDays, partOf, wattDaysOf, committed, available, limited, limitedShortfall, unitInRange}
+use Rattle.settlement.specs.Capacity.{wattDays, unitWattDays, partOf, wattDaysOf, available, limited, unitCommitted, limitedShortfall}
+use Rattle.settlement.specs.Capacity.{installedMost, commitmentMost, wattDaysMost, unitInRange}
 use Rattle.settlement.specs.Split.{split, splitSigned}
-use Rattle.settlement.specs.Shares.{net, netWith}
-use Rattle.settlement.specs.Money.{ceiling, charges, ceilings, credit, left, loadShare, due, isUnplaced, areaInRange}
+use Rattle.settlement.specs.Shares.{net, netMost, netWith}
+use Rattle.settlement.specs.Money.{ceiling, charges, ceilings, credit, left, loadShare, due, isUnplaced, areaInRange, dueMost}
 
 -- the split, for any number n of weights w
 pub record SplitLaws : Type 0 where
@@ -47,30 +49,31 @@ pub record MoneyLaws : Type 0 where
 -- why 64 bits are enough: in the ranges of 01 no value that the functions work with is past these bounds
 pub record Bounds : Type 0 where
   -- V of a unit with n commitments, and V × 100,000
-  pub watt-days-bound : (n : ℕ) (watts first last : ℕ → ℕ) → n ≤ 64 → ((k : ℕ) → (watts k ≤ 5000000) × (last k ≤ 365))
-      → unitWattDays n (λ k. wattDays (watts k) (first k) (last k)) ≤ 117120000000
-  pub committed-bound : (v : ℕ) → v ≤ 117120000000 → v * 100000 ≤ 11712000000000000
+  pub watt-days-bound : (n : ℕ) (watts first last : ℕ → ℕ) → n ≤ 64 → ((k : ℕ) → (watts k ≤ commitmentMost) × (last k ≤ 365))
+      → unitWattDays n (λ k. wattDays (watts k) (first k) (last k)) ≤ wattDaysMost
+  pub committed-bound : (v : ℕ) → v ≤ wattDaysMost → v * 100000 ≤ 11712000000000000
   -- T × (SH × I − D)
-  pub rated-bound : (u : UnitFacts) (v days : ℕ) → unitInRange u ≡ true
-      → committed (u .installed .0) (u .e) v days * (u .sh * u .installed .0 - u .d) ≤ 219600000000000000
+  pub rated-bound : (r : Rating) (h : HourCounts) (v days : ℕ) → unitInRange r h ≡ true
+      → unitCommitted r v days * (h .service * r .installed .0 - h .derated) ≤ 219600000000000000
   -- S in size, and |S| × V in the split
-  pub shortfall-bound : (u : UnitFacts) (v days : ℕ) → unitInRange u ≡ true → natAbs (limitedShortfall u v days) ≤ 5000000
-  pub split-bound : (u : UnitFacts) (v days : ℕ) → unitInRange u ≡ true → v ≤ 117120000000 → natAbs (limitedShortfall u v days) * v ≤ 585600000000000000
+  pub shortfall-bound : (r : Rating) (h : HourCounts) (v days : ℕ) → unitInRange r h ≡ true → natAbs (limitedShortfall r h v days) ≤ installedMost
+  pub split-bound : (r : Rating) (h : HourCounts) (v days : ℕ) → unitInRange r h ≡ true → v ≤ wattDaysMost
+      → natAbs (limitedShortfall r h v days) * v ≤ 585600000000000000
   -- the nets of an area's units: of all parties together, so of each
-  pub shortfalls-bound : (n : ℕ) (S : ℕ → ℤ) (w : ℕ → ℕ → ℕ) → n ≤ 32 → ((u : ℕ) → natAbs (S u) ≤ 5000000)
-      → sumBelow 16 (λ p. above (net n (λ u. splitSigned (S u) 16 (w u)) p)) ≤ 160000000
-  pub excesses-bound : (n : ℕ) (S : ℕ → ℤ) (w : ℕ → ℕ → ℕ) → n ≤ 32 → ((u : ℕ) → natAbs (S u) ≤ 5000000)
-      → sumBelow 16 (λ p. below (net n (λ u. splitSigned (S u) 16 (w u)) p)) ≤ 160000000
+  pub shortfalls-bound : (n : ℕ) (S : ℕ → ℤ) (w : ℕ → ℕ → ℕ) → n ≤ 32 → ((u : ℕ) → natAbs (S u) ≤ installedMost)
+      → sumBelow 16 (λ p. above (net n (λ u. splitSigned (S u) 16 (w u)) p)) ≤ netMost
+  pub excesses-bound : (n : ℕ) (S : ℕ → ℤ) (w : ℕ → ℕ → ℕ) → n ≤ 32 → ((u : ℕ) → natAbs (S u) ≤ installedMost)
+      → sumBelow 16 (λ p. below (net n (λ u. splitSigned (S u) 16 (w u)) p)) ≤ netMost
   -- so that adding up an area's nets share by share never meets the bound of `netWith`
-  pub net-steps : (n : ℕ) (S : ℕ → ℤ) (w : ℕ → ℕ → ℕ) (p : ℕ) → n < 32 → p < 16 → ((u : ℕ) → natAbs (S u) ≤ 5000000)
+  pub net-steps : (n : ℕ) (S : ℕ → ℤ) (w : ℕ → ℕ → ℕ) (p : ℕ) → n < 32 → p < 16 → ((u : ℕ) → natAbs (S u) ≤ installedMost)
       → netWith (net n (λ u. splitSigned (S u) 16 (w u)) p) (splitSigned (S n) 16 (w n) p) ≡ net (n + 1) (λ u. splitSigned (S u) 16 (w u)) p
   -- net × price × days; R and the sum of M; their product; what is left × obligations; dues
-  pub priced-bound : (w price days : ℕ) → w ≤ 160000000 → price ≤ 50000 → days ≤ 366 → w * price * days ≤ 2928000000000000
-  pub charges-bound : (N : ℕ → ℤ) (price days : ℕ) (o : ℕ → ℕ) → areaInRange N price days o ≡ true → charges N price days ≤ 2928000000
-  pub ceilings-bound : (N : ℕ → ℤ) (price days : ℕ) (o : ℕ → ℕ) → areaInRange N price days o ≡ true → ceilings N price days ≤ 2928000000
+  pub priced-bound : (w price days : ℕ) → w ≤ netMost → price ≤ 50000 → days ≤ 366 → w * price * days ≤ 2928000000000000
+  pub charges-bound : (N : ℕ → ℤ) (price days : ℕ) (o : ℕ → ℕ) → areaInRange N price days o ≡ true → charges N price days ≤ dueMost
+  pub ceilings-bound : (N : ℕ → ℤ) (price days : ℕ) (o : ℕ → ℕ) → areaInRange N price days o ≡ true → ceilings N price days ≤ dueMost
   pub credits-fit : (N : ℕ → ℤ) (price days : ℕ) (o : ℕ → ℕ) → areaInRange N price days o ≡ true → charges N price days * ceilings N price days < 2 ^ 63
   pub load-shares-fit : (N : ℕ → ℤ) (price days : ℕ) (o : ℕ → ℕ) → areaInRange N price days o ≡ true → left N price days * sumBelow 16 o < 2 ^ 63
   pub due-bound : (N : ℕ → ℤ) (price days : ℕ) (o : ℕ → ℕ) (p : ℕ) → p < 16 → areaInRange N price days o ≡ true
-      → natAbs (due N price days o p) ≤ 2928000000
+      → natAbs (due N price days o p) ≤ dueMost
   -- a line, which is a due less an earlier one
-  pub line-bound : (d earlier : ℤ) → natAbs d ≤ 2928000000 → natAbs earlier ≤ 2928000000 → natAbs (d -ℤ earlier) ≤ 5856000000
+  pub line-bound : (d earlier : ℤ) → natAbs d ≤ dueMost → natAbs earlier ≤ dueMost → natAbs (d -ℤ earlier) ≤ 5856000000

@@ -14,15 +14,19 @@ use Rattle.settlement.specs.Lists.{listBelow, element}
 use Rattle.settlement.specs.Signed.{above, below}
 use Rattle.settlement.specs.Quantities.{cents}
 use Rattle.settlement.specs.Split.{split}
-use Rattle.settlement.specs.Shares.{wattsOf}
+use Rattle.settlement.specs.Shares.{wattsOf, netMost}
 
 -- N × price × days / 1,000,000: cents for so many watts at a price in cents per MW-day
 unfoldable pub priced : ℕ → ℕ → ℕ → ℕ
 priced watts price days = watts * price * days / 1000000
 
--- the shortfalls of all parties are at most 160,000,000 W, and so are the excesses
+-- the most watts of an area's obligations: 16 parties × 100,000,000
+abbrev pub obligationsMost : ℕ
+obligationsMost = 1600000000
+
+-- the shortfalls of all parties together are in range, and so are the excesses
 unfoldable pub wattsInRange : (ℕ → ℤ) → Bool
-wattsInRange N = leb (sumBelow 16 (λ p. above (N p))) 160000000 && leb (sumBelow 16 (λ p. below (N p))) 160000000
+wattsInRange N = leb (sumBelow 16 (λ p. above (N p))) netMost && leb (sumBelow 16 (λ p. below (N p))) netMost
 
 module _ (N : ℕ → ℤ) (price days : ℕ) where
   -- C: the charge where N > 0
@@ -62,10 +66,9 @@ module _ (N : ℕ → ℤ) (price days : ℕ) where
     unfoldable pub isUnplaced : Bool
     isUnplaced = ltb 0 left && eqb (sumBelow 16 obligation) 0
 
-    -- The ranges of 01, Records, and what follows from them: 32 units of 5,000,000 W in an area, and 16 obligations of
-    -- 100,000,000 W.
+    -- the ranges of 01, Records, and what follows from them
     unfoldable pub areaInRange : Bool
-    areaInRange = leb price 50000 && (leb days 366 && (leb (sumBelow 16 obligation) 1600000000 && wattsInRange N))
+    areaInRange = leb price 50000 && (leb days 366 && (leb (sumBelow 16 obligation) obligationsMost && wattsInRange N))
 
     -- whether refusal 11 fits, and the sixteen dues
     unfoldable pub settled : AreaMoney
@@ -87,10 +90,14 @@ moneyAnswer nets price days obligations =
 unfoldable pub line : ℤ → ℤ → ℤ
 line due earlier = due -ℤ earlier
 
--- What the public function answers. A due is at most 2,928,000,000 cents in size (the law `due-bound`), and so is the sum of
--- earlier lines, which is an earlier due. Past that the line is 0.
+-- the most cents of a due: netMost × 50,000 × 366 / 1,000,000
+abbrev pub dueMost : ℕ
+dueMost = 2928000000
+
+-- What the public function answers. A due is within its bound (the law `due-bound`), and so is the sum of earlier lines,
+-- which is an earlier due. Past that the line is 0.
 unfoldable pub lineAnswer : ℤ → ℤ → ℤ
-lineAnswer due earlier = cond (leb (natAbs due) 2928000000 && leb (natAbs earlier) 2928000000) (line due earlier) (pos 0)
+lineAnswer due earlier = cond (leb (natAbs due) dueMost && leb (natAbs earlier) dueMost) (line due earlier) (pos 0)
 
 unfoldable pub linesAnswer : List Cents → List Cents → List Cents
 linesAnswer dues earlier = listBelow 16 (λ p. cents (lineAnswer (centsOf dues p) (centsOf earlier p)))

@@ -6,7 +6,8 @@ use lib.IntN.{ℤ, pos, natAbs, _+ℤ_}
 use lib.Dec.{leb}
 use lib.ListN.{getD}
 use Rattle.settlement.specs.declared.UnforcedWatts.{UnforcedWatts}
-use Rattle.settlement.specs.declared.capacity.UnitFacts.{UnitFacts}
+use Rattle.settlement.specs.declared.capacity.Rating.{Rating}
+use Rattle.settlement.specs.declared.capacity.HourCounts.{HourCounts}
 use Rattle.settlement.specs.Lists.{listBelow, element}
 use Rattle.settlement.specs.Signed.{sumBelowℤ}
 use Rattle.settlement.specs.Quantities.{unforcedWatts}
@@ -14,8 +15,8 @@ use Rattle.settlement.specs.Capacity.{wattDaysOf, limitedShortfall, unit
 use Rattle.settlement.specs.Split.{splitSigned}
 
 -- A unit's limited S is split over parties, ascending, by their parts of V. If V = 0 it has no shares.
-unfoldable pub unitShare : UnitFacts → (ℕ → ℕ) → ℕ → ℕ → ℤ
-unitShare u part days p = splitSigned (limitedShortfall u (wattDaysOf part) days) 16 part p
+unfoldable pub unitShare : Rating → HourCounts → (ℕ → ℕ) → ℕ → ℕ → ℤ
+unitShare r h part days p = splitSigned (limitedShortfall r h (wattDaysOf part) days) 16 part p
 
 -- N: the sum of a party's shares in an area, over its units
 unfoldable pub net : ℕ → (ℕ → ℕ → ℤ) → ℕ → ℤ
@@ -26,15 +27,19 @@ abbrev pub wattsOf : List UnforcedWatts → ℕ → ℤ
 wattsOf l p = getD l p (unforcedWatts (pos 0)) .0
 
 -- What the public functions answer. Out of the ranges of a unit and its year there are no shares.
-unfoldable pub sharesAnswer : UnitFacts → List ℕ → ℕ → List UnforcedWatts
-sharesAnswer u parts days =
-    cond (unitInRange u && yearInRange (wattDaysOf (element parts)) days)
-    (listBelow 16 (λ p. unforcedWatts (unitShare u (element parts) days p)))
+unfoldable pub sharesAnswer : Rating → HourCounts → List ℕ → ℕ → List UnforcedWatts
+sharesAnswer r h parts days =
+    cond (unitInRange r h && yearInRange (wattDaysOf (element parts)) days)
+    (listBelow 16 (λ p. unforcedWatts (unitShare r h (element parts) days p)))
     (listBelow 16 (λ p. unforcedWatts (pos 0)))
 
--- A net with one share more. A net is at most 32 × 5,000,000 = 160,000,000 W in size; past that the sum is 0.
+-- the most watts of a party's net, and of all parties' nets in an area: 32 units × 5,000,000
+abbrev pub netMost : ℕ
+netMost = 160000000
+
+-- A net with one share more. Where either is past the bound the sum is 0.
 unfoldable pub netWith : ℤ → ℤ → ℤ
-netWith n share = cond (leb (natAbs n) 160000000 && leb (natAbs share) 160000000) (n +ℤ share) (pos 0)
+netWith n share = cond (leb (natAbs n) netMost && leb (natAbs share) netMost) (n +ℤ share) (pos 0)
 
 unfoldable pub netsAnswer : List UnforcedWatts → List UnforcedWatts → List UnforcedWatts
 netsAnswer nets shares = listBelow 16 (λ p. unforcedWatts (netWith (wattsOf nets p) (wattsOf shares p)))

@@ -11,24 +11,40 @@ ghost use Prim.Native.Nat.{_+_, _≤_, _<_, max};
 ghost use lib.IntN.{pos};
 ghost use Rattle.settlement.specs.Signed.{above};
 ghost use Rattle.settlement.specs.Quantities.{installedWatts, unforcedWatts};
-ghost use Rattle.settlement.specs.Capacity.{wattDaysAnswer, committed, unforced, peakRated, available, shortfall, unforcedCapacity, quarters, limit, limited};
-ghost use Rattle.settlement.specs.Capacity.{unitShortfall, limitedShortfall, ratesInRange, hoursInRange, unitInRange, yearInRange, shortfallAnswer};
+ghost use Rattle.settlement.specs.Capacity.{wattDaysAnswer, unforced, peakRated, shortfall, unforcedCapacity, quarters, limit, limited};
+ghost use Rattle.settlement.specs.Capacity.{unitCommitted, unitAvailable, unitShortfall, limitedShortfall, shortfallAnswer};
+ghost use Rattle.settlement.specs.Capacity.{installedMost, rateMost, wattDaysMost, ratesInRange, hoursInRange, unitInRange, yearInRange};
 
-// What a unit's shortfall is worked out from, beside its commitments.
-pub struct UnitFacts {
+// A set's rating, as its Unit record states it.
+pub struct Rating {
+    // I, installed capacity (ICAP).
     pub installed: InstalledWatts,
-    // Outage rates in hundred-thousandths: effective EFORd, EFORd-5, and EFORd from the year's own outages.
-    pub e: u64,
-    pub f: u64,
-    pub g: u64,
-    pub class: u64,
-    // Peak hours in service and in full forced outage, and the sum of the forced deratings in watts.
-    pub sh: u64,
-    pub foh: u64,
-    pub d: u64,
+    // Outage rates in hundred-thousandths: e, the effective EFORd; f, EFORd-5; g, the EFORd from the year's own outages.
+    pub eford: u32,
+    pub eford5: u32,
+    pub efordyear: u32,
+    pub class: u32,
 }
 
+// What a unit's accepted peak hours come to.
+pub struct HourCounts {
+    // SH, in service.
+    pub service: u64,
+    // FOH, in full forced outage.
+    pub outage: u64,
+    // D, the sum of the forced deratings in watts.
+    pub derated: u64,
+}
+
+const INSTALLED_MOST: u64 = 5_000_000;
+
+const RATE_MOST: u32 = 99_999;
+
 const COMMITMENT_MOST: u64 = 5_000_000;
+
+const HOURS_MOST: u64 = 8_784;
+
+const WATT_DAYS_MOST: u64 = 117_120_000_000;
 
 const LAST_DAY: u64 = 365;
 
@@ -51,11 +67,12 @@ pub fn watt_days(watts: u64, first: u64, last: u64) -> u64
 const WHOLE: u64 = 100_000;
 
 // T, the installed watts that are committed.
-fn committed(i: InstalledWatts, e: u64, v: u64, days: u64) -> InstalledWatts
-    requires { ⌜ (e ≤ 99999) × (v ≤ 117120000000) × (365 ≤ days) × (days ≤ 366) ⌝ }
-    ensures { λ r. ⌜ r ≡ installedWatts (committed (i .0) e v days) ⌝ }
+fn committed(rating: Rating, v: u64, days: u64) -> InstalledWatts
+    requires { ⌜ (rating .eford ≤ rateMost) × (v ≤ wattDaysMost) × (365 ≤ days) × (days ≤ 366) ⌝ }
+    ensures { λ r. ⌜ r ≡ installedWatts (unitCommitted rating v days) ⌝ }
 {
-    let average = v * WHOLE / ((WHOLE - e) * days);
+    let i = rating.installed;
+    let average = v * WHOLE / ((WHOLE - rating.eford as u64) * days);
     if average < i.0 {
         InstalledWatts(average)
     } else {
@@ -64,20 +81,20 @@ fn committed(i: InstalledWatts, e: u64, v: u64, days: u64) -> InstalledWatts
 }
 
 // The unforced watts of installed ones at an outage rate: X of T at f, G of T at g, and U of I at e.
-fn unforced(w: InstalledWatts, rate: u64) -> UnforcedWatts
-    requires { ⌜ (w .0 ≤ 5000000) × (rate ≤ 99999) ⌝ }
+fn unforced(w: InstalledWatts, rate: u32) -> UnforcedWatts
+    requires { ⌜ (w .0 ≤ installedMost) × (rate ≤ rateMost) ⌝ }
     ensures { λ r. ⌜ r ≡ unforcedWatts (pos (unforced (w .0) rate)) ⌝ }
 {
-    unforced_watts(w.0 * (WHOLE - rate) / WHOLE)
+    unforced_watts(w.0 * (WHOLE - rate as u64) / WHOLE)
 }
 
 // P before rule (f) of section 10, by one floor.
-fn peak_rated(t: InstalledWatts, u: UnitFacts) -> UnforcedWatts
-    requires { ⌜ (t .0 ≤ 5000000) × (unitInRange u ≡ true) × (0 < u .sh + u .foh) ⌝ }
-    ensures { λ r. ⌜ r ≡ unforcedWatts (pos (peakRated (t .0) (u .installed .0) (u .sh) (u .foh) (u .d))) ⌝ }
+fn peak_rated(t: InstalledWatts, rating: Rating, hours: HourCounts) -> UnforcedWatts
+    requires { ⌜ (t .0 ≤ installedMost) × (unitInRange rating hours ≡ true) × (0 < hours .service + hours .outage) ⌝ }
+    ensures { λ r. ⌜ r ≡ unforcedWatts (pos (peakRated (t .0) (rating .installed .0) (hours .service) (hours .outage) (hours .derated))) ⌝ }
 {
-    let i = u.installed;
-    let p = t.0 * (u.sh * i.0 - u.d) / (i.0 * (u.sh + u.foh));
+    let i = rating.installed;
+    let p = t.0 * (hours.service * i.0 - hours.derated) / (i.0 * (hours.service + hours.outage));
     unforced_watts(p)
 }
 
@@ -95,16 +112,16 @@ fn higher(a: UnforcedWatts, b: UnforcedWatts) -> UnforcedWatts
 }
 
 // P.
-fn available(t: InstalledWatts, u: UnitFacts) -> UnforcedWatts
-    requires { ⌜ (t .0 ≤ 5000000) × (unitInRange u ≡ true) ⌝ }
-    ensures { λ r. ⌜ r ≡ unforcedWatts (pos (available (t .0) (u .installed .0) (u .g) (u .sh) (u .foh) (u .d))) ⌝ }
+fn available(t: InstalledWatts, rating: Rating, hours: HourCounts) -> UnforcedWatts
+    requires { ⌜ (t .0 ≤ installedMost) × (unitInRange rating hours ≡ true) ⌝ }
+    ensures { λ r. ⌜ r ≡ unforcedWatts (pos (unitAvailable rating hours (t .0))) ⌝ }
 {
-    let g = unforced(t, u.g);
-    if u.sh + u.foh == 0 {
+    let g = unforced(t, rating.efordyear);
+    if hours.service + hours.outage == 0 {
         return g;
     }
-    let p = peak_rated(t, u);
-    if u.sh < 50 {
+    let p = peak_rated(t, rating, hours);
+    if hours.service < 50 {
         return higher(p, g);
     }
     p
@@ -117,7 +134,7 @@ fn shortfall(x: UnforcedWatts, p: UnforcedWatts) -> UnforcedWatts
     unforced_difference(watts_above(x), watts_above(p))
 }
 
-fn quarters(class: u64) -> u64
+fn quarters(class: u32) -> u64
     ensures { λ r. ⌜ (r ≡ quarters class) × (r ≤ 4) ⌝ }
 {
     match class {
@@ -128,8 +145,8 @@ fn quarters(class: u64) -> u64
 }
 
 // L, of U.
-fn limit(u: UnforcedWatts, class: u64) -> UnforcedWatts
-    requires { ⌜ above (u .0) ≤ 5000000 ⌝ }
+fn limit(u: UnforcedWatts, class: u32) -> UnforcedWatts
+    requires { ⌜ above (u .0) ≤ installedMost ⌝ }
     ensures { λ r. ⌜ r ≡ unforcedWatts (pos (limit (above (u .0)) class)) ⌝ }
 {
     unforced_watts(watts_above(u) * quarters(class) / 4)
@@ -148,57 +165,57 @@ fn limited(s: UnforcedWatts, l: UnforcedWatts) -> UnforcedWatts
 }
 
 // S at T.
-fn unit_shortfall(t: InstalledWatts, u: UnitFacts) -> UnforcedWatts
-    requires { ⌜ (t .0 ≤ 5000000) × (unitInRange u ≡ true) ⌝ }
-    ensures { λ r. ⌜ r ≡ unforcedWatts (unitShortfall u (t .0)) ⌝ }
+fn unit_shortfall(t: InstalledWatts, rating: Rating, hours: HourCounts) -> UnforcedWatts
+    requires { ⌜ (t .0 ≤ installedMost) × (unitInRange rating hours ≡ true) ⌝ }
+    ensures { λ r. ⌜ r ≡ unforcedWatts (unitShortfall rating hours (t .0)) ⌝ }
 {
-    shortfall(unforced(t, u.f), available(t, u))
+    shortfall(unforced(t, rating.eford5), available(t, rating, hours))
 }
 
 // L, from I.
-fn unit_limit(i: InstalledWatts, u: UnitFacts) -> UnforcedWatts
-    requires { ⌜ (i .0 ≤ 5000000) × (unitInRange u ≡ true) ⌝ }
-    ensures { λ r. ⌜ r ≡ unforcedWatts (pos (limit (unforcedCapacity (i .0) (u .e)) (u .class))) ⌝ }
+fn unit_limit(i: InstalledWatts, rating: Rating) -> UnforcedWatts
+    requires { ⌜ (i .0 ≤ installedMost) × (rating .eford ≤ rateMost) ⌝ }
+    ensures { λ r. ⌜ r ≡ unforcedWatts (pos (limit (unforcedCapacity (i .0) (rating .eford)) (rating .class))) ⌝ }
 {
-    limit(unforced(i, u.e), u.class)
+    limit(unforced(i, rating.eford), rating.class)
 }
 
-fn rates_in_range(u: UnitFacts) -> bool
-    ensures { λ r. ⌜ r ≡ ratesInRange u ⌝ }
+fn rates_in_range(rating: Rating) -> bool
+    ensures { λ r. ⌜ r ≡ ratesInRange rating ⌝ }
 {
-    if 99_999 < u.e {
+    if RATE_MOST < rating.eford {
         return false;
     }
-    if 99_999 < u.f {
+    if RATE_MOST < rating.eford5 {
         return false;
     }
-    if 99_999 < u.g {
+    if RATE_MOST < rating.efordyear {
         return false;
     }
-    u.class <= 2
+    rating.class <= 2
 }
 
-fn hours_in_range(u: UnitFacts) -> bool
-    requires { ⌜ u .installed .0 ≤ 5000000 ⌝ }
-    ensures { λ r. ⌜ r ≡ hoursInRange u ⌝ }
+fn hours_in_range(rating: Rating, hours: HourCounts) -> bool
+    requires { ⌜ rating .installed .0 ≤ installedMost ⌝ }
+    ensures { λ r. ⌜ r ≡ hoursInRange rating hours ⌝ }
 {
-    if 8_784 < u.sh {
+    if HOURS_MOST < hours.service {
         return false;
     }
-    if 8_784 < u.foh {
+    if HOURS_MOST < hours.outage {
         return false;
     }
-    let i = u.installed;
-    u.d <= u.sh * i.0
+    let i = rating.installed;
+    hours.derated <= hours.service * i.0
 }
 
-fn unit_in_range(u: UnitFacts) -> bool
-    ensures { λ r. ⌜ r ≡ unitInRange u ⌝ }
+fn unit_in_range(rating: Rating, hours: HourCounts) -> bool
+    ensures { λ r. ⌜ r ≡ unitInRange rating hours ⌝ }
 {
-    let i = u.installed;
-    if within(1, 5_000_000, i.0) {
-        if rates_in_range(u) {
-            return hours_in_range(u);
+    let i = rating.installed;
+    if within(1, INSTALLED_MOST, i.0) {
+        if rates_in_range(rating) {
+            return hours_in_range(rating, hours);
         }
     }
     false
@@ -207,38 +224,39 @@ fn unit_in_range(u: UnitFacts) -> bool
 fn year_in_range(v: u64, days: u64) -> bool
     ensures { λ r. ⌜ r ≡ yearInRange v days ⌝ }
 {
-    if 117_120_000_000 < v {
+    if WATT_DAYS_MOST < v {
         return false;
     }
     within(365, 366, days)
 }
 
-// Whether a unit's facts, its watt-days and the days of the year are in range.
-fn in_range(u: UnitFacts, v: u64, days: u64) -> bool
-    ensures { λ r. ⌜ r ≡ (unitInRange u && yearInRange v days) ⌝ }
+// Whether a unit's rating and hours, its watt-days and the days of the year are in range.
+fn in_range(rating: Rating, hours: HourCounts, v: u64, days: u64) -> bool
+    ensures { λ r. ⌜ r ≡ (unitInRange rating hours && yearInRange v days) ⌝ }
 {
-    if unit_in_range(u) {
+    if unit_in_range(rating, hours) {
         return year_in_range(v, days);
     }
     false
 }
 
 // S after the limit, in range.
-fn limited_in_range(u: UnitFacts, v: u64, days: u64) -> UnforcedWatts
-    requires { ⌜ (unitInRange u && yearInRange v days) ≡ true ⌝ }
-    ensures { λ r. ⌜ r ≡ unforcedWatts (limitedShortfall u v days) ⌝ }
+fn limited_in_range(rating: Rating, hours: HourCounts, v: u64, days: u64) -> UnforcedWatts
+    requires { ⌜ (unitInRange rating hours && yearInRange v days) ≡ true ⌝ }
+    ensures { λ r. ⌜ r ≡ unforcedWatts (limitedShortfall rating hours v days) ⌝ }
 {
-    let i = u.installed;
-    let t = committed(i, u.e, v, days);
-    limited(unit_shortfall(t, u), unit_limit(i, u))
+    let i = rating.installed;
+    let t = committed(rating, v, days);
+    limited(unit_shortfall(t, rating, hours), unit_limit(i, rating))
 }
 
-// A unit's limited shortfall, from its facts, its V watt-days and the days of the delivery year; 0 where these are out of range.
-pub fn limited_shortfall(u: UnitFacts, v: u64, days: u64) -> UnforcedWatts
-    ensures { λ r. ⌜ r ≡ unforcedWatts (shortfallAnswer u v days) ⌝ }
+// A unit's limited shortfall, from its rating, its hours, its V watt-days and the days of the delivery year; 0 where these are
+// out of range.
+pub fn limited_shortfall(rating: Rating, hours: HourCounts, v: u64, days: u64) -> UnforcedWatts
+    ensures { λ r. ⌜ r ≡ unforcedWatts (shortfallAnswer rating hours v days) ⌝ }
 {
-    if in_range(u, v, days) {
-        return limited_in_range(u, v, days);
+    if in_range(rating, hours, v, days) {
+        return limited_in_range(rating, hours, v, days);
     }
     unforced_watts(0)
 }

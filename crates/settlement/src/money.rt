@@ -7,6 +7,7 @@ use crate::amounts::cents_below;
 use crate::amounts::cents_difference;
 use crate::amounts::watts_above;
 use crate::amounts::watts_below;
+use crate::shares::NET_MOST;
 use crate::split::capped_sum;
 use crate::split::split_by_party;
 ghost use mathlib.Core.Path.{_≡_};
@@ -19,7 +20,7 @@ ghost use Rattle.settlement.specs.Lists.{listBelow, element};
 ghost use Rattle.settlement.specs.Signed.{above, below};
 ghost use Rattle.settlement.specs.Quantities.{cents};
 ghost use Rattle.settlement.specs.Split.{split};
-ghost use Rattle.settlement.specs.Shares.{wattsOf};
+ghost use Rattle.settlement.specs.Shares.{wattsOf, netMost};
 ghost use Rattle.settlement.specs.Money.{priced, centsOf, wattsInRange, areaInRange, settled, moneyAnswer, lineAnswer, linesAnswer};
 
 // What an area's nets, price and obligations come to: whether money is left over that no obligation takes, which is
@@ -57,14 +58,14 @@ fn excesses(nets: [UnforcedWatts; 16]) -> [u64; 16]
 
 // The money for so many watts at a price in cents per MW-day.
 fn priced(watts: u64, price: u64, days: u64) -> Cents
-    requires { ⌜ (watts ≤ 160000000) × (price ≤ 50000) × (days ≤ 366) ⌝ }
+    requires { ⌜ (watts ≤ netMost) × (price ≤ 50000) × (days ≤ 366) ⌝ }
     ensures { λ r. ⌜ r ≡ cents (pos (priced watts price days)) ⌝ }
 {
     cents(watts * price * days / 1_000_000)
 }
 
 fn priced_each(watts: [u64; 16], price: u64, days: u64) -> [Cents; 16]
-    requires { ⌜ (sumBelow 16 (element watts) ≤ 160000000) × (price ≤ 50000) × (days ≤ 366) ⌝ }
+    requires { ⌜ (sumBelow 16 (element watts) ≤ netMost) × (price ≤ 50000) × (days ≤ 366) ⌝ }
     ensures { λ r. ⌜ r ≡ listBelow 16 (λ p. cents (pos (priced (element watts p) price days))) ⌝ }
 {
     let mut money = [Cents(0); 16];
@@ -179,12 +180,14 @@ fn watts_in_range(nets: [UnforcedWatts; 16]) -> bool
     ensures { λ r. ⌜ r ≡ wattsInRange (wattsOf nets) ⌝ }
 {
     let short = shortfalls(nets);
-    if 160_000_000 < capped_sum(&short) {
+    if NET_MOST < capped_sum(&short) {
         return false;
     }
     let over = excesses(nets);
-    capped_sum(&over) <= 160_000_000
+    capped_sum(&over) <= NET_MOST
 }
+
+const OBLIGATIONS_MOST: u64 = 1_600_000_000;
 
 fn area_in_range(nets: [UnforcedWatts; 16], price: u64, days: u64, obligations: [u64; 16]) -> bool
     ensures { λ r. ⌜ r ≡ areaInRange (wattsOf nets) price days (element obligations) ⌝ }
@@ -195,7 +198,7 @@ fn area_in_range(nets: [UnforcedWatts; 16], price: u64, days: u64, obligations: 
     if 366 < days {
         return false;
     }
-    if 1_600_000_000 < capped_sum(&obligations) {
+    if OBLIGATIONS_MOST < capped_sum(&obligations) {
         return false;
     }
     watts_in_range(nets)
@@ -243,6 +246,7 @@ pub fn area_money(
     }
 }
 
+// The most cents of a due in size.
 const DUE_MOST: u64 = 2_928_000_000;
 
 fn size_of(c: Cents) -> u64

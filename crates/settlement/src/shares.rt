@@ -4,7 +4,8 @@ use crate::amounts::unforced_difference;
 use crate::amounts::unforced_watts;
 use crate::amounts::watts_above;
 use crate::amounts::watts_below;
-use crate::capacity::UnitFacts;
+use crate::capacity::HourCounts;
+use crate::capacity::Rating;
 use crate::capacity::limited_shortfall;
 use crate::split::capped_sum;
 use crate::split::split_by_party;
@@ -51,11 +52,16 @@ fn signed_split(s: UnforcedWatts, weights: [u64; 16]) -> [UnforcedWatts; 16]
 }
 
 // A unit's shares, by its parties' watt-days.
-pub fn unit_shares(u: UnitFacts, parts: [u64; 16], days: u64) -> [UnforcedWatts; 16]
-    ensures { λ r. ⌜ r ≡ sharesAnswer u parts days ⌝ }
+pub fn unit_shares(
+    rating: Rating,
+    hours: HourCounts,
+    parts: [u64; 16],
+    days: u64,
+) -> [UnforcedWatts; 16]
+    ensures { λ r. ⌜ r ≡ sharesAnswer rating hours parts days ⌝ }
 {
     let v = capped_sum(&parts);
-    signed_split(limited_shortfall(u, v, days), parts)
+    signed_split(limited_shortfall(rating, hours, v, days), parts)
 }
 
 // The nets of an area without units.
@@ -65,7 +71,8 @@ pub fn no_nets() -> [UnforcedWatts; 16]
     [UnforcedWatts(0); 16]
 }
 
-const NET_MOST: u64 = 160_000_000;
+// The most watts of a net in size.
+pub(crate) const NET_MOST: u64 = 160_000_000;
 
 fn net_with(net: UnforcedWatts, share: UnforcedWatts) -> UnforcedWatts
     ensures { λ r. ⌜ r ≡ unforcedWatts (netWith (net .0) (share .0)) ⌝ }

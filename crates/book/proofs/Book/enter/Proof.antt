@@ -1,12 +1,12 @@
-use mathlib.Core.Path.{refl, ap, _∙_}
 use native.Mathlib.Omega.{arith}
+use mathlib.Core.Path.{refl, ap, _∙_}
+use mathlib.Core.List.{[], _∷_}
 use borrow.Author.Needs.{needs}
+use Rattle.records.specs.Format.{yearFormat, areaFormat, unitFormat, commitmentFormat, hourFormat, loadFormat, postFormat}
 use Rattle.records.specs.Rules.{areaNamed, unitNamed}
-use Rattle.records.proofs.Named.{placed}
+use Rattle.records.proofs.OneKind.{another}
 use Rattle.book.specs.Steps.{postAnswer}
-use denote.Ref.{now}
-use Rattle.book.proofs.Answers.{number-is, refused, posted, entered-as, sound-answer}
-use Rattle.book.proofs.Answers.{stored-area, stored-unit, stored-commitment, stored-hour, stored-load}
+use Rattle.book.proofs.Answers.{number-is, refused, posted, stored-as, sound-answer}
 use Rattle.book.proofs.Book.enter.Statement.{statement}
 use Rattle.book.proofs.Book.enter.Tie as tie
 
@@ -20,54 +20,54 @@ unit-named-requires : tie.Need-unit-named-requires
 unit-named-requires c κs = search needs
 
 mul-area : tie.Need-mul-area
-mul-area c = search needs
+mul-area c = omega arith
 
 element-copy-out-area : tie.Need-element-copy-out-area
-element-copy-out-area c = search needs
+element-copy-out-area c = omega arith
 
 mul-unit : tie.Need-mul-unit
-mul-unit c = search needs
+mul-unit c = omega arith
 
 element-copy-out-unit : tie.Need-element-copy-out-unit
-element-copy-out-unit c = search needs
+element-copy-out-unit c = omega arith
 
-asked-requires : tie.Need-asked-requires
-asked-requires c κs = search needs
+asked-of-requires : tie.Need-asked-of-requires
+asked-of-requires c κs = search needs
 
 refusal-requires : tie.Need-refusal-requires
 refusal-requires c κs = search needs
 
-no-lines-requires : tie.Need-no-lines-requires
-no-lines-requires c κs = search needs
+without-lines-requires : tie.Need-without-lines-requires
+without-lines-requires c κs = search needs
 
 returns : tie.Need-returns
 returns c =
-    let start = c .before .before .before .before .before .before .before .before .before .before in
+    let ruled = c .before in
+    let read = ruled .before .before .before .before .before in
+    let start = read .before .before .before .before in
     let b = start .args .t1 in
-    let r = c .before .before .before .before .before .before .before .before .decode .result in
-    let known = c .before .before .before .before .before .before .before .before .decode .ensures in
-    let area = c .before .before .before .before .before .before .before .area-named .ensures .0 in
-    let unit = c .before .before .before .before .before .before .unit-named .ensures .0 in
-    let number = number-is b r area unit (c .before .before .before .asked .ensures) (c .before .before .refusal .ensures) in
-    sound-answer b (now (start .args .bytes)) (start .pre) (refused b (now (start .args .bytes)) known number (c .before .if1 .taken) (c .no-lines .ensures))
+    let area = read .before .area-named .ensures .0 in
+    let unit = read .unit-named .ensures .0 in
+    let number = number-is b _ area unit (ruled .before .before .asked-of .ensures) (ruled .before .refusal .ensures) in
+    sound-answer b _ (start .pre) (refused b _ (read .before .before .decode .ensures) number (ruled .if1 .taken) (c .without-lines .ensures))
 
 enum-known-r : tie.Need-enum-known-r
 enum-known-r c = search needs
 
-no-lines-requires-2 : tie.Need-no-lines-requires-2
-no-lines-requires-2 c κs = search needs
+without-lines-requires-2 : tie.Need-without-lines-requires-2
+without-lines-requires-2 c κs = search needs
 
 enum-known-r-2 : tie.Need-enum-known-r-2
 enum-known-r-2 c = search needs
 
 mul-a : tie.Need-mul-a
-mul-a c = search needs
+mul-a c = omega arith
 
 element-set-from-a : tie.Need-element-set-from-a
-element-set-from-a c = search needs
+element-set-from-a c = omega arith
 
-no-lines-requires-3 : tie.Need-no-lines-requires-3
-no-lines-requires-3 c κs = search needs
+without-lines-requires-3 : tie.Need-without-lines-requires-3
+without-lines-requires-3 c κs = search needs
 
 enum-known-r-3 : tie.Need-enum-known-r-3
 enum-known-r-3 c = search needs
@@ -75,64 +75,62 @@ enum-known-r-3 c = search needs
 new-unit-requires : tie.Need-new-unit-requires
 new-unit-requires c κs = search needs
 
-mul-t39 : tie.Need-mul-t39
-mul-t39 c = search needs
+mul-t36 : tie.Need-mul-t36
+mul-t36 c = omega arith
 
 element-set-from-self : tie.Need-element-set-from-self
-element-set-from-self c = search needs
+element-set-from-self c = omega arith
 
-no-lines-requires-4 : tie.Need-no-lines-requires-4
-no-lines-requires-4 c κs = search needs
+without-lines-requires-4 : tie.Need-without-lines-requires-4
+without-lines-requires-4 c κs = search needs
 
 enum-known-r-4 : tie.Need-enum-known-r-4
 enum-known-r-4 c = search needs
 
-place-requires : tie.Need-place-requires
-place-requires c κs = search needs
+number-index-requires : tie.Need-number-index-requires
+number-index-requires c κs = search needs
 
 mul-c : tie.Need-mul-c
-mul-c c = omega (arith, placed 64 _ (omega arith) (c .place .ensures))
+mul-c c = omega arith
 
 element-set-from-c : tie.Need-element-set-from-c
-element-set-from-c c = placed 64 _ (omega arith) (c .place .ensures)
+element-set-from-c c = omega arith
 
-no-lines-requires-5 : tie.Need-no-lines-requires-5
-no-lines-requires-5 c κs = search needs
+without-lines-requires-5 : tie.Need-without-lines-requires-5
+without-lines-requires-5 c κs = search needs
 
 enum-known-r-5 : tie.Need-enum-known-r-5
 enum-known-r-5 c = search needs
 
 with-hour-requires : tie.Need-with-hour-requires
-with-hour-requires c κs = c .before .before .before .before .before .before .before .before .before .before .before .before .pre .units _
+with-hour-requires c κs = c .before .before .before .before .before .before .before .before .before .before .before .before .pre .units .each _
 
-mul-t51 : tie.Need-mul-t51
-mul-t51 c = search needs
+mul-t46 : tie.Need-mul-t46
+mul-t46 c = omega arith
 
 element-set-from-self-2 : tie.Need-element-set-from-self-2
-element-set-from-self-2 c = search needs
+element-set-from-self-2 c = omega arith
 
-no-lines-requires-6 : tie.Need-no-lines-requires-6
-no-lines-requires-6 c κs = search needs
+without-lines-requires-6 : tie.Need-without-lines-requires-6
+without-lines-requires-6 c κs = search needs
 
 enum-known-r-6 : tie.Need-enum-known-r-6
 enum-known-r-6 c = search needs
 
-place-requires-2 : tie.Need-place-requires-2
-place-requires-2 c κs = search needs
+party-index-requires : tie.Need-party-index-requires
+party-index-requires c κs = search needs
 
 area-party-requires : tie.Need-area-party-requires
-area-party-requires c κs =
-    let far = c .before .before .before .before .before .before in
-    (far .before .before .before .before .area-named .ensures .1, placed 16 _ (omega arith) (c .place2 .ensures))
+area-party-requires c κs = search needs
 
 mul-self : tie.Need-mul-self
-mul-self c = search needs
+mul-self c = omega arith
 
 element-write-self : tie.Need-element-write-self
-element-write-self c = search needs
+element-write-self c = omega arith
 
-no-lines-requires-7 : tie.Need-no-lines-requires-7
-no-lines-requires-7 c κs = search needs
+without-lines-requires-7 : tie.Need-without-lines-requires-7
+without-lines-requires-7 c κs = search needs
 
 enum-told : tie.Need-enum-told
 enum-told c = search needs
@@ -143,132 +141,95 @@ post-requires c κs = search needs
 enum-told-2 : tie.Need-enum-told-2
 enum-told-2 c = search needs
 
-no-lines-requires-8 : tie.Need-no-lines-requires-8
-no-lines-requires-8 c κs = search needs
+without-lines-requires-8 : tie.Need-without-lines-requires-8
+without-lines-requires-8 c κs = search needs
 
 returns-2 : tie.Need-returns-2
 returns-2 c =
-    let far = c .before .before .before .before .before .before in
-    let further = far .before .before .before .before .before .before in
-    let start = further .before in
-    let b = start .args .t1 in
-    let r = far .before .before .before .before .before .decode .result in
-    let known = far .before .before .before .before .before .decode .ensures in
-    let area = far .before .before .before .before .area-named .ensures .0 in
-    let unit = far .before .before .before .unit-named .ensures .0 in
-    let number = number-is b r area unit (far .asked .ensures) (c .before .before .before .before .before .refusal .ensures) in
-    let match = c .before .before .r .given .1 in
-    sound-answer b (now (start .args .bytes)) (start .pre)
-    (entered-as b (now (start .args .bytes)) match known number (c .before .before .before .before .if1 .left) refl (c .no-lines2 .ensures) refl)
+    let ruled = c .before .before .before .before in
+    let read = ruled .before .before .before .before .before in
+    let start = read .before .before .before .before in
+    stored-as (start .args .t1) _ (start .pre) (read .before .before .decode .ensures) (read .before .area-named .ensures .0) (read .unit-named .ensures .0)
+    (ruled .before .before .asked-of .ensures) (ruled .before .refusal .ensures) (ruled .if1 .left) (c .before .before .r .given .1) refl
+    (c .without-lines2 .ensures) refl
 
 returns-3 : tie.Need-returns-3
 returns-3 c =
-    let far = c .before .before .before .before .before .before in
-    let further = far .before .before .before .before .before .before in
-    let start = further .before in
-    let b = start .args .t1 in
-    let r = far .before .before .before .before .before .decode .result in
-    let known = far .before .before .before .before .before .decode .ensures in
-    let area = far .before .before .before .before .area-named .ensures .0 in
-    let unit = far .before .before .before .unit-named .ensures .0 in
-    let number = number-is b r area unit (far .asked .ensures) (c .before .before .before .before .before .refusal .ensures) in
+    let ruled = c .before .before .before .before in
+    let read = ruled .before .before .before .before .before in
+    let start = read .before .before .before .before in
+    let area = read .before .area-named .ensures .0 in
     let match = c .before .before .r2 .given .1 in
-    sound-answer b (now (start .args .bytes)) (start .pre)
-    (entered-as b (now (start .args .bytes)) match known number (c .before .before .before .before .if1 .left) refl (c .no-lines3 .ensures)
-    (stored-area b _ (area ∙ ap areaNamed match)))
+    stored-as (start .args .t1) _ (start .pre) (read .before .before .decode .ensures) area (read .unit-named .ensures .0)
+    (ruled .before .before .asked-of .ensures) (ruled .before .refusal .ensures) (ruled .if1 .left) match refl
+    (c .without-lines3 .ensures) (simp (area ∙ ap areaNamed match))
 
 returns-4 : tie.Need-returns-4
 returns-4 c =
-    let far = c .before .before .before .before .before .before in
-    let further = far .before .before .before .before .before .before in
-    let start = further .before .before in
-    let b = start .args .t1 in
-    let r = further .decode .result in
-    let known = further .decode .ensures in
-    let area = far .before .before .before .before .before .area-named .ensures .0 in
-    let unit = far .before .before .before .before .unit-named .ensures .0 in
-    let number = number-is b r area unit (far .before .asked .ensures) (far .refusal .ensures) in
+    let ruled = c .before .before .before .before .before in
+    let read = ruled .before .before .before .before .before in
+    let start = read .before .before .before .before in
+    let unit = read .unit-named .ensures .0 in
     let match = c .before .before .before .r3 .given .1 in
-    sound-answer b (now (start .args .bytes)) (start .pre)
-    (entered-as b (now (start .args .bytes)) match known number (c .before .before .before .before .before .if1 .left) refl
-    (c .no-lines4 .ensures) (stored-unit b _ (unit ∙ ap unitNamed match) (c .before .new-unit .ensures)))
+    stored-as (start .args .t1) _ (start .pre) (read .before .before .decode .ensures) (read .before .area-named .ensures .0) unit
+    (ruled .before .before .asked-of .ensures) (ruled .before .refusal .ensures) (ruled .if1 .left) match refl
+    (c .without-lines4 .ensures) (simp (c .before .new-unit .ensures, unit ∙ ap unitNamed match))
 
 returns-5 : tie.Need-returns-5
 returns-5 c =
-    let far = c .before .before .before .before .before .before in
-    let further = far .before .before .before .before .before .before in
-    let start = further .before .before in
-    let b = start .args .t1 in
-    let r = further .decode .result in
-    let known = further .decode .ensures in
-    let area = far .before .before .before .before .before .area-named .ensures .0 in
-    let unit = far .before .before .before .before .unit-named .ensures .0 in
-    let number = number-is b r area unit (far .before .asked .ensures) (far .refusal .ensures) in
-    let match = c .before .before .before .r4 .given .1 in
-    sound-answer b (now (start .args .bytes)) (start .pre)
-    (entered-as b (now (start .args .bytes)) match known number (c .before .before .before .before .before .if1 .left) refl
-    (c .no-lines5 .ensures) (stored-commitment b _ (c .before .place .ensures)))
+    let ruled = c .before .before .before .before .before in
+    let read = ruled .before .before .before .before .before in
+    let start = read .before .before .before .before in
+    stored-as (start .args .t1) _ (start .pre) (read .before .before .decode .ensures) (read .before .area-named .ensures .0) (read .unit-named .ensures .0)
+    (ruled .before .before .asked-of .ensures) (ruled .before .refusal .ensures) (ruled .if1 .left) (c .before .before .before .r4 .given .1) refl
+    (c .without-lines5 .ensures) (simp (c .before .number-index .ensures .0))
 
 returns-6 : tie.Need-returns-6
 returns-6 c =
-    let far = c .before .before .before .before .before .before in
-    let further = far .before .before .before .before .before .before in
-    let start = further .before .before in
-    let b = start .args .t1 in
-    let r = further .decode .result in
-    let known = further .decode .ensures in
-    let area = far .before .before .before .before .before .area-named .ensures .0 in
-    let unit = far .before .before .before .before .unit-named .ensures .0 in
-    let number = number-is b r area unit (far .before .asked .ensures) (far .refusal .ensures) in
+    let ruled = c .before .before .before .before .before in
+    let read = ruled .before .before .before .before .before in
+    let start = read .before .before .before .before in
+    let unit = read .unit-named .ensures .0 in
     let match = c .before .before .before .r5 .given .1 in
-    sound-answer b (now (start .args .bytes)) (start .pre)
-    (entered-as b (now (start .args .bytes)) match known number (c .before .before .before .before .before .if1 .left) refl
-    (c .no-lines6 .ensures) (stored-hour b _ (unit ∙ ap unitNamed match) (c .before .with-hour .ensures)))
+    stored-as (start .args .t1) _ (start .pre) (read .before .before .decode .ensures) (read .before .area-named .ensures .0) unit
+    (ruled .before .before .asked-of .ensures) (ruled .before .refusal .ensures) (ruled .if1 .left) match refl
+    (c .without-lines6 .ensures) (simp (c .before .with-hour .ensures, unit ∙ ap unitNamed match))
 
 returns-7 : tie.Need-returns-7
 returns-7 c =
-    let far = c .before .before .before .before .before .before in
-    let further = far .before .before .before .before .before .before in
-    let start = further .before .before .before in
-    let b = start .args .t1 in
-    let r = further .before .decode .result in
-    let known = further .before .decode .ensures in
-    let area = further .area-named .ensures .0 in
-    let unit = far .before .before .before .before .before .unit-named .ensures .0 in
-    let number = number-is b r area unit (far .before .before .asked .ensures) (far .before .refusal .ensures) in
+    let ruled = c .before .before .before .before .before .before in
+    let read = ruled .before .before .before .before .before in
+    let start = read .before .before .before .before in
+    let area = read .before .area-named .ensures .0 in
     let match = c .before .before .before .before .r6 .given .1 in
-    sound-answer b (now (start .args .bytes)) (start .pre)
-    (entered-as b (now (start .args .bytes)) match known number (far .if1 .left) refl (c .no-lines7 .ensures) (stored-load b _ (area
-    ∙ ap areaNamed match) (c .before .before .place2 .ensures) (c .before .area-party .ensures .0)))
+    stored-as (start .args .t1) _ (start .pre) (read .before .before .decode .ensures) area (read .unit-named .ensures .0)
+    (ruled .before .before .asked-of .ensures) (ruled .before .refusal .ensures) (ruled .if1 .left) match refl
+    (c .without-lines7 .ensures) (simp (c .before .area-party .ensures .0, c .before .before .party-index .ensures .0, area ∙ ap areaNamed match))
 
 returns-8 : tie.Need-returns-8
 returns-8 c =
-    let far = c .before .before .before .before .before .before in
-    let further = far .before .before .before .before .before .before in
-    let start = further in
+    let ruled = c .before .before .before in
+    let read = ruled .before .before .before .before .before in
+    let start = read .before .before .before .before in
     let b = start .args .t1 in
-    let r = far .before .before .before .before .decode .result in
-    let known = far .before .before .before .before .decode .ensures in
-    let area = far .before .before .before .area-named .ensures .0 in
-    let unit = far .before .before .unit-named .ensures .0 in
-    let number = number-is b r area unit (c .before .before .before .before .before .asked .ensures) (c .before .before .before .before .refusal .ensures) in
+    let area = read .before .area-named .ensures .0 in
+    let unit = read .unit-named .ensures .0 in
+    let number = number-is b _ area unit (ruled .before .before .asked-of .ensures) (ruled .before .refusal .ensures) in
     let match = c .before .enum-told .given .1 in
-    sound-answer b (now (start .args .bytes)) (start .pre)
-    (posted b (now (start .args .bytes)) known match number (c .before .before .before .if1 .left) (c .post .ensures ∙ ap (postAnswer b) (area
-    ∙ ap areaNamed match)))
+    sound-answer b _ (start .pre)
+    (posted b _ (read .before .before .decode .ensures) match number (ruled .if1 .left) (c .post .ensures ∙ ap (postAnswer b) (area ∙ ap areaNamed match)))
 
 returns-9 : tie.Need-returns-9
 returns-9 c =
-    let start = c .before .before .before .before .before .before .before .before .before .before .before .before in
-    let b = start .args .t1 in
-    let r = c .before .before .before .before .before .before .before .before .before .before .decode .result in
-    let known = c .before .before .before .before .before .before .before .before .before .before .decode .ensures in
-    let area = c .before .before .before .before .before .before .before .before .before .area-named .ensures .0 in
-    let unit = c .before .before .before .before .before .before .before .before .unit-named .ensures .0 in
-    let number = number-is b r area unit (c .before .before .before .before .before .asked .ensures) (c .before .before .before .before .refusal .ensures) in
-    let match = c .before .enum-told2 .given .1 in
-    sound-answer b (now (start .args .bytes)) (start .pre)
-    (entered-as b (now (start .args .bytes)) match known number (c .before .before .before .if1 .left) refl (c .no-lines8 .ensures) refl)
+    let ruled = c .before .before .before in
+    let read = ruled .before .before .before .before .before in
+    let start = read .before .before .before .before in
+    let r = read .before .before .decode .result in
+    let listed = yearFormat ∷ areaFormat ∷ unitFormat ∷ commitmentFormat ∷ hourFormat ∷ loadFormat ∷ postFormat ∷ [] in
+    let none = another listed r (c .before .before .match .keys8) in
+    stored-as (start .args .t1) _ (start .pre) (read .before .before .decode .ensures) (read .before .area-named .ensures .0) (read .unit-named .ensures .0)
+    (ruled .before .before .asked-of .ensures) (ruled .before .refusal .ensures) (ruled .if1 .left) refl (none postFormat tt) (c .without-lines8 .ensures)
+    (simp (none yearFormat tt, none areaFormat tt, none unitFormat tt, none commitmentFormat tt, none hourFormat tt, none loadFormat tt, none postFormat tt))
 
 pub enter-spec : {M : Type 1} → statement M
 enter-spec =
@@ -281,41 +242,41 @@ enter-spec =
     element-copy-out-area
     mul-unit
     element-copy-out-unit
-    asked-requires
+    asked-of-requires
     refusal-requires
-    no-lines-requires
+    without-lines-requires
     returns
     enum-known-r
-    no-lines-requires-2
+    without-lines-requires-2
     enum-known-r-2
     mul-a
     element-set-from-a
-    no-lines-requires-3
+    without-lines-requires-3
     enum-known-r-3
     new-unit-requires
-    mul-t39
+    mul-t36
     element-set-from-self
-    no-lines-requires-4
+    without-lines-requires-4
     enum-known-r-4
-    place-requires
+    number-index-requires
     mul-c
     element-set-from-c
-    no-lines-requires-5
+    without-lines-requires-5
     enum-known-r-5
     with-hour-requires
-    mul-t51
+    mul-t46
     element-set-from-self-2
-    no-lines-requires-6
+    without-lines-requires-6
     enum-known-r-6
-    place-requires-2
+    party-index-requires
     area-party-requires
     mul-self
     element-write-self
-    no-lines-requires-7
+    without-lines-requires-7
     enum-told
     post-requires
     enum-told-2
-    no-lines-requires-8
+    without-lines-requires-8
     returns-2
     returns-3
     returns-4

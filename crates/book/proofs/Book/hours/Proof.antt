@@ -3,19 +3,18 @@ use Prim.Native.Nat.{_-_, _/_}
 use native.Mathlib.Omega.{arith}
 use borrow.Author.Needs.{needs}
 use borrow.Author.Tests.{leb-false}
-use Rattle.records.proofs.Named.{placed}
 use Rattle.book.proofs.Answers.{number-is, sound-answer, stored-hour}
 use denote.Ref.{now}
 use Rattle.records.specs.declared.format.Record.the-variants.{Hour}
 use Rattle.records.specs.Hours.{hourOf}
 use Rattle.book.specs.Books.{Sound}
-use Rattle.book.specs.Runs.{hoursOf}
-use Rattle.book.proofs.HourRuns.{inside, twelve, hour-entered, hour-accepted, hour-refused, goes-on, stops, ends}
+use Rattle.book.specs.Runs.{hourLength, hoursOf}
+use Rattle.book.proofs.HourRuns.{no-area, inside, twelve, hour-entered, hour-accepted, hour-refused, goes-on, stops, ends}
 use Rattle.book.proofs.Book.hours.Statement.{statement}
 use Rattle.book.proofs.Book.hours.Tie as tie
 
 abbrev Inv-loop : tie.InvT-loop
-Inv-loop s from to self₀ end at₀ self at = (hoursOf ((end - at) / 12) self s at ≡ hoursOf ((end - from) / 12) self₀ s from) × Sound self
+Inv-loop s from to self₀ end at₀ self at = (hoursOf ((end - at) / hourLength) self s at ≡ hoursOf ((end - from) / hourLength) self₀ s from) × Sound self
 
 abbrev μ-loop : tie.MeasureT-loop
 μ-loop s from to self₀ end at₀ self at = end - at
@@ -44,20 +43,20 @@ part-hour-of-end c = inside _ _ _ (c .if1 .taken) (c .before .before .before .en
 hour-of-requires : tie.Need-hour-of-requires Inv-loop μ-loop
 hour-of-requires c κs = search needs
 
-place-requires : tie.Need-place-requires Inv-loop μ-loop
-place-requires c κs = search needs
+unit-index-requires : tie.Need-unit-index-requires Inv-loop μ-loop
+unit-index-requires c κs = search needs
 
 element-copy-out-area : tie.Need-element-copy-out-area Inv-loop μ-loop
 element-copy-out-area c = search needs
 
 mul-unit : tie.Need-mul-unit Inv-loop μ-loop
-mul-unit c = omega (arith, placed 32 _ (omega arith) (c .before .place .ensures))
+mul-unit c = omega (arith, c .before .unit-index .ensures .1)
 
 element-copy-out-unit : tie.Need-element-copy-out-unit Inv-loop μ-loop
-element-copy-out-unit c = placed 32 _ (omega arith) (c .before .place .ensures)
+element-copy-out-unit c = c .before .unit-index .ensures .1
 
-asked-requires : tie.Need-asked-requires Inv-loop μ-loop
-asked-requires c κs = search needs
+asked-of-requires : tie.Need-asked-of-requires Inv-loop μ-loop
+asked-of-requires c κs = search needs
 
 hour-requires : tie.Need-hour-requires Inv-loop μ-loop
 hour-requires c κs = search needs
@@ -71,19 +70,19 @@ returns c =
     let at = turn .loop .at in
     let read = c .before .before .before .before .before .before .hour-of .ensures ∙ ap hourOf (twelve s at) in
     let number =
-    number-is b (Hour _) refl (c .before .before .before .before .before .place .ensures) (c .before .before .asked .ensures) (c .before .hour .ensures) in
+    number-is b (Hour _) no-area (c .before .before .before .before .before .unit-index .ensures .0) (c .before .before .asked-of .ensures) (c .before .hour .ensures) in
     let more = c .before .before .before .before .before .before .before .before .if1 .taken in
     let other = hour-refused b _ read number (c .if2 .taken) in
     (stops s (start .args .t1) b _ at _ (turn .loop .inv .0) _ (turn .before .end-of .ensures) more other, turn .loop .inv .1)
 
 with-hour-requires : tie.Need-with-hour-requires Inv-loop μ-loop
-with-hour-requires c κs = c .before .before .before .before .before .before .before .before .before .before .loop .inv .1 .units _
+with-hour-requires c κs = c .before .before .before .before .before .before .before .before .before .before .loop .inv .1 .units .each _
 
 mul-t17 : tie.Need-mul-t17 Inv-loop μ-loop
-mul-t17 c = omega (arith, placed 32 _ (omega arith) (c .before .before .before .before .before .before .place .ensures))
+mul-t17 c = omega (arith, c .before .before .before .before .before .before .unit-index .ensures .1)
 
 element-set-from-self : tie.Need-element-set-from-self Inv-loop μ-loop
-element-set-from-self c = placed 32 _ (omega arith) (c .before .before .before .before .before .before .place .ensures)
+element-set-from-self c = c .before .before .before .before .before .before .unit-index .ensures .1
 
 loop-less : tie.Need-loop-less Inv-loop μ-loop
 loop-less c = omega arith
@@ -95,10 +94,10 @@ loop-again c =
     let s = now (start .args .s) in
     let b = turn .loop .self in
     let at = turn .loop .at in
-    let place = c .before .before .before .before .before .before .place .ensures in
+    let index = c .before .before .before .before .before .before .unit-index .ensures .0 in
     let read = c .before .before .before .before .before .before .before .hour-of .ensures ∙ ap hourOf (twelve s at) in
-    let number = number-is b (Hour _) refl place (c .before .before .before .asked .ensures) (c .before .before .hour .ensures) in
-    let stored = stored-hour b _ place (c .with-hour .ensures) in
+    let number = number-is b (Hour _) no-area index (c .before .before .before .asked-of .ensures) (c .before .before .hour .ensures) in
+    let stored = stored-hour b _ index (c .with-hour .ensures) in
     let entered = hour-entered b _ read number (c .before .if2 .left) stored in
     let more = c .before .before .before .before .before .before .before .before .before .if1 .taken in
     let accepted = hour-accepted b _ read number (c .before .if2 .left) stored in
@@ -110,7 +109,7 @@ returns-2 c =
     let start = turn .before .before .before in
     let s = now (start .args .s) in
     let bound = turn .before .end-of .ensures in
-    (ends s (start .args .t1) (turn .loop .self) _ (turn .loop .at) _ (turn .loop .inv .0) _ bound (leb-false 12 _ (c .if1 .left)), turn .loop .inv .1)
+    (ends s (start .args .t1) (turn .loop .self) _ (turn .loop .at) _ (turn .loop .inv .0) _ bound (leb-false hourLength _ (c .if1 .left)), turn .loop .inv .1)
 
 returns-3 : tie.Need-returns-3 Inv-loop μ-loop
 returns-3 c =
@@ -134,11 +133,11 @@ hours-spec =
     part-hour-of-start
     part-hour-of-end
     hour-of-requires
-    place-requires
+    unit-index-requires
     element-copy-out-area
     mul-unit
     element-copy-out-unit
-    asked-requires
+    asked-of-requires
     hour-requires
     returns
     with-hour-requires

@@ -11,9 +11,12 @@ new-requires c κs = search needs
 zero-requires : tie.Need-zero-requires
 zero-requires c κs = search needs
 
+no-hours-requires : tie.Need-no-hours-requires
+no-hours-requires c κs = search needs
+
 returns : tie.Need-returns
 unfolding listBelow
-returns c = sound-of empty-sound (simp (c .zero .ensures, c .before .new .ensures))
+returns c = sound-of empty-sound (simp (c .no-hours .ensures, c .before .zero .ensures, c .before .before .new .ensures))
 
 pub new-spec : {M : Type 1} → statement M
-new-spec = tie.close (tie.spec new-requires zero-requires returns)
+new-spec = tie.close (tie.spec new-requires zero-requires no-hours-requires returns)

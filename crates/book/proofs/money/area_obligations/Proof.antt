@@ -2,6 +2,7 @@ use mathlib.Core.Path.{refl}
 use Prim.Native.Nat.{_-_}
 use native.Mathlib.Omega.{arith}
 use borrow.Author.Needs.{needs}
+use Rattle.records.specs.Format.{partyCount}
 use Rattle.settlement.proofs.Lists.{Filled, filled-none, filled-more, filled-all}
 use Rattle.book.specs.Books.{obligationIn}
 use Rattle.book.proofs.Loops.{obligation-at}
@@ -9,10 +10,10 @@ use Rattle.book.proofs.money.area_obligations.Statement.{statement}
 use Rattle.book.proofs.money.area_obligations.Tie as tie
 
 abbrev Inv-loop : tie.InvT-loop
-Inv-loop area obligations found₀ p₀ found p = Filled 16 (obligationIn obligations area) found p
+Inv-loop area obligations found₀ p₀ found p = Filled partyCount (obligationIn obligations area) found p
 
 abbrev μ-loop : tie.MeasureT-loop
-μ-loop area obligations found₀ p₀ found p = 16 - p
+μ-loop area obligations found₀ p₀ found p = partyCount - p
 
 loop-holds : tie.Need-loop-holds Inv-loop μ-loop
 loop-holds c = filled-none refl

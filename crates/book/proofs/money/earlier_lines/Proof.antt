@@ -1,6 +1,7 @@
 use Prim.Native.Nat.{_-_}
 use native.Mathlib.Omega.{arith}
 use borrow.Author.Needs.{needs}
+use Rattle.records.specs.Format.{partyCount}
 use Rattle.settlement.specs.Quantities.{cents}
 use Rattle.settlement.proofs.Lists.{Filled, filled-none, filled-more, filled-all}
 use Rattle.book.specs.Books.{postedIn}
@@ -9,10 +10,10 @@ use Rattle.book.proofs.money.earlier_lines.Statement.{statement}
 use Rattle.book.proofs.money.earlier_lines.Tie as tie
 
 abbrev Inv-loop : tie.InvT-loop
-Inv-loop area posted found₀ p₀ found p = Filled 16 (λ q. cents (postedIn posted area q)) found p
+Inv-loop area posted found₀ p₀ found p = Filled partyCount (λ q. cents (postedIn posted area q)) found p
 
 abbrev μ-loop : tie.MeasureT-loop
-μ-loop area posted found₀ p₀ found p = 16 - p
+μ-loop area posted found₀ p₀ found p = partyCount - p
 
 no-lines-requires : tie.Need-no-lines-requires Inv-loop μ-loop
 no-lines-requires c κs = search needs

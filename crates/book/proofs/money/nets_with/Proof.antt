@@ -1,5 +1,5 @@
-use borrow.Author.Tests.{eq-eqb, ne-eqb}
 use borrow.Author.Needs.{needs}
+use borrow.Author.Tests.{eq-eqb, ne-eqb}
 use Rattle.book.specs.Steps.{netsWith}
 use Rattle.book.proofs.money.nets_with.Statement.{statement}
 use Rattle.book.proofs.money.nets_with.Tie as tie
@@ -17,9 +17,6 @@ returns c = simp (ne-eqb _ _ (c .if1 .taken))
 parts-requires : tie.Need-parts-requires
 parts-requires c κs = search needs
 
-unit-facts-requires : tie.Need-unit-facts-requires
-unit-facts-requires c κs = search needs
-
 unit-shares-requires : tie.Need-unit-shares-requires
 unit-shares-requires c κs = search needs
 
@@ -29,13 +26,7 @@ add-shares-requires c κs = search needs
 returns-2 : tie.Need-returns-2
 unfolding netsWith
 returns-2 c =
-    simp (
-      eq-eqb _ _ (c .before .before .before .before .if1 .left),
-      c .add-shares .ensures,
-      c .before .unit-shares .ensures,
-      c .before .before .unit-facts .ensures,
-      c .before .before .before .parts .ensures,
-    )
+    simp (eq-eqb _ _ (c .before .before .before .if1 .left), c .add-shares .ensures, c .before .unit-shares .ensures, c .before .before .parts .ensures)
 
 pub nets-with-spec : {M : Type 1} → statement M
 nets-with-spec =
@@ -45,7 +36,6 @@ nets-with-spec =
     add-this
     returns
     parts-requires
-    unit-facts-requires
     unit-shares-requires
     add-shares-requires
     returns-2)

@@ -1,43 +1,44 @@
-use mathlib.Core.Path.{refl}
-use mathlib.Core.List.{[]}
 use Prim.Native.Nat.{_-_}
 use native.Mathlib.Omega.{arith}
 use borrow.Author.Needs.{needs}
-use Rattle.settlement.proofs.Lists.{Filled, filled-none, filled-more, filled-all}
-use Rattle.records.specs.Dues.{partFor}
-use Rattle.book.specs.Books.{factsOf}
+use Rattle.settlement.specs.Lists.{listBelow}
+use Rattle.records.specs.Format.{commitmentCount}
+use Rattle.book.proofs.AreaNets.{PartsOf, parts-none, parts-small, parts-more, parts-all}
 use Rattle.book.proofs.money.parts.Statement.{statement}
 use Rattle.book.proofs.money.parts.Tie as tie
 
 abbrev Inv-loop : tie.InvT-loop
-Inv-loop commitments u parts₀ p₀ parts p = Filled 16 (partFor (factsOf 0 [] [] commitments []) u) parts p
+Inv-loop u commitments parts₀ k₀ parts k = PartsOf commitments u parts k
 
 abbrev μ-loop : tie.MeasureT-loop
-μ-loop commitments u parts₀ p₀ parts p = 16 - p
+μ-loop u commitments parts₀ k₀ parts k = commitmentCount - k
 
 loop-holds : tie.Need-loop-holds Inv-loop μ-loop
-loop-holds c = filled-none refl
+unfolding listBelow
+loop-holds c = parts-none
 
-part-requires : tie.Need-part-requires Inv-loop μ-loop
-part-requires c κs = (c .before .before .pre .0, c .before .before .pre .1, omega arith)
+mul-c : tie.Need-mul-c Inv-loop μ-loop
+mul-c c = search needs
 
-mul-parts : tie.Need-mul-parts Inv-loop μ-loop
-mul-parts c = search needs
+array-copy-out-c : tie.Need-array-copy-out-c Inv-loop μ-loop
+array-copy-out-c c = search needs
 
-array-write-parts : tie.Need-array-write-parts Inv-loop μ-loop
-array-write-parts c = search needs
+parts-with-requires : tie.Need-parts-with-requires Inv-loop μ-loop
+parts-with-requires c κs =
+    let start = c .before .before .before in
+    (start .pre .0 _, start .pre .1, parts-small (c .before .before .loop .inv) (start .pre .0) (omega arith))
 
-add-p : tie.Need-add-p Inv-loop μ-loop
-add-p c = search needs
+add-k : tie.Need-add-k Inv-loop μ-loop
+add-k c = search needs
 
 loop-less : tie.Need-loop-less Inv-loop μ-loop
 loop-less c = search needs
 
 loop-again : tie.Need-loop-again Inv-loop μ-loop
-loop-again c = filled-more (c .before .before .loop .inv) (omega arith) (c .part .ensures)
+loop-again c = parts-more (c .before .before .before .loop .inv) (omega arith) (c .parts-with .ensures)
 
 returns : tie.Need-returns Inv-loop μ-loop
-returns c = filled-all (c .before .loop .inv) (omega arith)
+returns c = parts-all (c .before .loop .inv) (omega arith)
 
 pub parts-spec : {M : Type 1} → statement M
 parts-spec =
@@ -46,10 +47,10 @@ parts-spec =
     Inv-loop
     μ-loop
     loop-holds
-    part-requires
-    mul-parts
-    array-write-parts
-    add-p
+    mul-c
+    array-copy-out-c
+    parts-with-requires
+    add-k
     loop-less
     loop-again
     returns)

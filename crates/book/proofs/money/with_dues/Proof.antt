@@ -5,17 +5,19 @@ use lib.IntN.{pos}
 use lib.Dec.{eqb}
 use lib.ListN.{getD}
 use borrow.Author.Needs.{needs}
+use Rattle.records.specs.Format.{partyCount}
 use Rattle.settlement.specs.Quantities.{cents}
 use Rattle.settlement.proofs.Lists.{Filled, filled-none, filled-more, filled-all}
+use Rattle.book.specs.Books.{pairCount}
 use Rattle.book.proofs.money.with_dues.Statement.{statement}
 use Rattle.book.proofs.money.with_dues.Tie as tie
 
 abbrev Inv-loop : tie.InvT-loop
 Inv-loop area posted dues sums₀ k₀ sums k =
-    Filled 128 (λ j. cond (eqb (j / 16) area) (getD dues (j % 16) (cents (pos 0))) (getD posted j (cents (pos 0)))) sums k
+    Filled pairCount (λ j. cond (eqb (j / partyCount) area) (getD dues (j % partyCount) (cents (pos 0))) (getD posted j (cents (pos 0)))) sums k
 
 abbrev μ-loop : tie.MeasureT-loop
-μ-loop area posted dues sums₀ k₀ sums k = 128 - k
+μ-loop area posted dues sums₀ k₀ sums k = pairCount - k
 
 loop-holds : tie.Need-loop-holds Inv-loop μ-loop
 loop-holds c = filled-none (search needs)

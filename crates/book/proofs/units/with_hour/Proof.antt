@@ -1,6 +1,6 @@
 use native.Mathlib.Omega.{arith}
 use borrow.Author.Needs.{needs}
-use Rattle.book.specs.Entered.{withHour}
+use Rattle.records.specs.Hours.{counted}
 use Rattle.book.proofs.Ranges.{derated-most}
 use Rattle.book.proofs.units.with_hour.Statement.{statement}
 use Rattle.book.proofs.units.with_hour.Tie as tie
@@ -8,26 +8,26 @@ use Rattle.book.proofs.units.with_hour.Tie as tie
 service-hour-requires : tie.Need-service-hour-requires
 service-hour-requires c κs = search needs
 
-add-t6 : tie.Need-add-t6
-add-t6 c = search needs
+add-t7 : tie.Need-add-t7
+add-t7 c = search needs
 
 outage-hour-requires : tie.Need-outage-hour-requires
 outage-hour-requires c κs = search needs
 
-add-t8 : tie.Need-add-t8
-add-t8 c = search needs
+add-t9 : tie.Need-add-t9
+add-t9 c = search needs
 
 derated-watts-requires : tie.Need-derated-watts-requires
 derated-watts-requires c κs = search needs
 
-add-t10 : tie.Need-add-t10
-add-t10 c = omega (arith, derated-most (c .before .before .before .before .before .before .before .pre), c .before .derated-watts .ensures .1)
+add-t11 : tie.Need-add-t11
+add-t11 c = omega (arith, derated-most (c .before .before .before .before .before .before .before .before .pre), c .before .derated-watts .ensures .1)
 
 hour-index-requires : tie.Need-hour-index-requires
 hour-index-requires c κs = search needs
 
 returns : tie.Need-returns
-unfolding withHour
+unfolding counted
 returns c =
     simp (
       c .hour-index .ensures,
@@ -41,10 +41,10 @@ with-hour-spec =
     tie.close
     (tie.spec
     service-hour-requires
-    add-t6
+    add-t7
     outage-hour-requires
-    add-t8
+    add-t9
     derated-watts-requires
-    add-t10
+    add-t11
     hour-index-requires
     returns)

@@ -1,76 +1,23 @@
+use mathlib.Core.List.{[], _∷_}
 use borrow.Author.Needs.{needs}
+use Rattle.records.specs.Format.{postFormat}
+use Rattle.records.proofs.OneKind.{another}
 use Rattle.ledger.proofs.pass.post_area.Statement.{statement}
 use Rattle.ledger.proofs.pass.post_area.Tie as tie
 
 decode-requires : tie.Need-decode-requires
 decode-requires c κs = search needs
 
-enum-told : tie.Need-enum-told
-enum-told c = search needs
-
-enum-told-2 : tie.Need-enum-told-2
-enum-told-2 c = search needs
-
-enum-told-3 : tie.Need-enum-told-3
-enum-told-3 c = search needs
-
-enum-told-4 : tie.Need-enum-told-4
-enum-told-4 c = search needs
-
-enum-told-5 : tie.Need-enum-told-5
-enum-told-5 c = search needs
-
-enum-told-6 : tie.Need-enum-told-6
-enum-told-6 c = search needs
-
-enum-told-7 : tie.Need-enum-told-7
-enum-told-7 c = search needs
-
 enum-known-r : tie.Need-enum-known-r
 enum-known-r c = search needs
 
 returns : tie.Need-returns
-returns c = simp (← (c .before .before .decode .ensures), c .enum-told .given .1)
+returns c = simp (← (c .before .before .before .decode .ensures), c .before .r .given .1)
 
 returns-2 : tie.Need-returns-2
-returns-2 c = simp (← (c .before .before .decode .ensures), c .enum-told2 .given .1)
-
-returns-3 : tie.Need-returns-3
-returns-3 c = simp (← (c .before .before .decode .ensures), c .enum-told3 .given .1)
-
-returns-4 : tie.Need-returns-4
-returns-4 c = simp (← (c .before .before .decode .ensures), c .enum-told4 .given .1)
-
-returns-5 : tie.Need-returns-5
-returns-5 c = simp (← (c .before .before .decode .ensures), c .enum-told5 .given .1)
-
-returns-6 : tie.Need-returns-6
-returns-6 c = simp (← (c .before .before .decode .ensures), c .enum-told6 .given .1)
-
-returns-7 : tie.Need-returns-7
-returns-7 c = simp (← (c .before .before .decode .ensures), c .enum-told7 .given .1)
-
-returns-8 : tie.Need-returns-8
-returns-8 c = simp (← (c .before .before .before .decode .ensures), c .before .r .given .1)
+returns-2 c =
+    let other = another (postFormat ∷ []) (c .before .decode .result) (c .match .keys2) postFormat tt in
+    simp (← (c .before .decode .ensures), other)
 
 pub post-area-spec : {M : Type 1} → statement M
-post-area-spec =
-    tie.close
-    (tie.spec
-    decode-requires
-    enum-told
-    enum-told-2
-    enum-told-3
-    enum-told-4
-    enum-told-5
-    enum-told-6
-    enum-told-7
-    enum-known-r
-    returns
-    returns-2
-    returns-3
-    returns-4
-    returns-5
-    returns-6
-    returns-7
-    returns-8)
+post-area-spec = tie.close (tie.spec decode-requires enum-known-r returns returns-2)

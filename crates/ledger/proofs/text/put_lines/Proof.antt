@@ -3,17 +3,18 @@ use Prim.Native.Nat.{_+_, _-_, _*_, _≤_}
 use native.Mathlib.Omega.{arith}
 use lib.ListN.{length}
 use borrow.Author.Needs.{needs}
-use Rattle.ledger.specs.Printed.{partyLines, Put}
+use Rattle.records.specs.Format.{partyCount}
+use Rattle.ledger.specs.Printed.{partyLines, lineMost, Put}
 use Rattle.ledger.proofs.Texts.{lines-none, lines-more, lines-all}
 use Rattle.ledger.proofs.text.put_lines.Statement.{statement}
 use Rattle.ledger.proofs.text.put_lines.Tie as tie
 
 abbrev Inv-loop : tie.InvT-loop
 Inv-loop out₀ at a lines next₀ p₀ out next p =
-    (p ≤ 16) × (length out ≡ length out₀) × (next ≤ at + 66 * p) × Put out₀ at (partyLines a lines p) next out
+    (p ≤ partyCount) × (length out ≡ length out₀) × (next ≤ at + lineMost * p) × Put out₀ at (partyLines a lines p) next out
 
 abbrev μ-loop : tie.MeasureT-loop
-μ-loop out₀ at a lines next₀ p₀ out next p = 16 - p
+μ-loop out₀ at a lines next₀ p₀ out next p = partyCount - p
 
 loop-holds : tie.Need-loop-holds Inv-loop μ-loop
 loop-holds c = (omega arith, refl, omega arith, lines-none _ _ _ _)

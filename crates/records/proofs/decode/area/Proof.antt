@@ -15,7 +15,7 @@ quad-requires c κs = search needs
 
 returns-2 : tie.Need-returns-2
 returns-2 c =
-    of-length areaFormat _ (c .before .before .before .before .pre) (c .before .before .if1 .left) (simp (
+    of-length areaFormat _ (c .before .before .before .before .pre) _ (c .before .before .if1 .left) (simp (
       c .quad .ensures,
       c .before .byte .ensures .0,
     ))

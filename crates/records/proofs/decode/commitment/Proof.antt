@@ -28,7 +28,7 @@ quad-requires c κs = search needs
 returns-2 : tie.Need-returns-2
 returns-2 c =
     let far = c .before .before .before .before .before .before in
-    of-length commitmentFormat _ (far .before .before .pre) (far .if1 .left) (simp (
+    of-length commitmentFormat _ (far .before .before .pre) _ (far .if1 .left) (simp (
       c .quad .ensures,
       c .before .pair2 .ensures .0,
       c .before .before .pair .ensures .0,

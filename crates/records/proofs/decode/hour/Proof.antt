@@ -13,7 +13,7 @@ hour-fields-requires : tie.Need-hour-fields-requires
 hour-fields-requires c κs = search needs
 
 returns-2 : tie.Need-returns-2
-returns-2 c = of-length hourFormat _ (c .before .before .before .pre) (c .before .if1 .left) (ap Hour (c .hour-fields .ensures))
+returns-2 c = of-length hourFormat _ (c .before .before .before .pre) _ (c .before .if1 .left) (ap Hour (c .hour-fields .ensures))
 
 pub hour-spec : {M : Type 1} → statement M
 hour-spec = tie.close (tie.spec returns hour-fields-requires returns-2)

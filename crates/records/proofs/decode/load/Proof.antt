@@ -18,7 +18,7 @@ quad-requires c κs = search needs
 
 returns-2 : tie.Need-returns-2
 returns-2 c =
-    of-length loadFormat _ (c .before .before .before .before .before .pre) (c .before .before .before .if1 .left) (simp (
+    of-length loadFormat _ (c .before .before .before .before .before .pre) _ (c .before .before .before .if1 .left) (simp (
       c .quad .ensures,
       c .before .byte2 .ensures .0,
       c .before .before .byte .ensures .0,

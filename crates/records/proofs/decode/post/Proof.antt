@@ -12,7 +12,7 @@ byte-requires c κs = search needs
 
 returns-2 : tie.Need-returns-2
 returns-2 c =
-    of-length postFormat _ (c .before .before .before .pre) (c .before .if1 .left) (simp (c .byte .ensures .0))
+    of-length postFormat _ (c .before .before .before .pre) _ (c .before .if1 .left) (simp (c .byte .ensures .0))
 
 pub post-spec : {M : Type 1} → statement M
 post-spec = tie.close (tie.spec returns byte-requires returns-2)

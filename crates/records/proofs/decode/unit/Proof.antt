@@ -37,7 +37,7 @@ byte-requires-3 c κs = search needs
 returns-2 : tie.Need-returns-2
 returns-2 c =
     let far = c .before .before .before .before .before .before in
-    of-length unitFormat _ (far .before .before .before .before .pre) (far .before .before .if1 .left) (simp (
+    of-length unitFormat _ (far .before .before .before .before .pre) _ (far .before .before .if1 .left) (simp (
       c .byte3 .ensures .0,
       c .before .quad4 .ensures,
       c .before .before .quad3 .ensures,

@@ -12,7 +12,7 @@ pair-requires c κs = search needs
 
 returns-2 : tie.Need-returns-2
 returns-2 c =
-    of-length yearFormat _ (c .before .before .before .pre) (c .before .if1 .left) (simp (c .pair .ensures .0))
+    of-length yearFormat _ (c .before .before .before .pre) _ (c .before .if1 .left) (simp (c .pair .ensures .0))
 
 pub year-spec : {M : Type 1} → statement M
 year-spec = tie.close (tie.spec returns pair-requires returns-2)

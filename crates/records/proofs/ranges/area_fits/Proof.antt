@@ -1,5 +1,6 @@
+use mathlib.Core.Bool.{and-true}
 use borrow.Author.Needs.{needs}
-use Rattle.records.specs.Refusal.{areaFits}
+use Rattle.records.specs.Refusal.{numbersFit}
 use Rattle.records.proofs.Tests.{dropped, kept}
 use Rattle.records.proofs.ranges.area_fits.Statement.{statement}
 use Rattle.records.proofs.ranges.area_fits.Tie as tie
@@ -8,8 +9,8 @@ is-area-requires : tie.Need-is-area-requires
 is-area-requires c κs = search needs
 
 returns : tie.Need-returns
-unfolding areaFits
-returns c = simp (dropped (c .before .is-area .ensures) (c .if1 .taken))
+unfolding numbersFit
+returns c = simp (dropped (c .before .is-area .ensures) (c .if1 .taken), and-true)
 
 cast-within : tie.Need-cast-within
 cast-within c = search needs
@@ -18,12 +19,8 @@ within-requires : tie.Need-within-requires
 within-requires c κs = search needs
 
 returns-2 : tie.Need-returns-2
-unfolding areaFits
-returns-2 c =
-    simp (
-      c .within .ensures,
-      kept (c .before .before .before .is-area .ensures) (c .before .before .if1 .left),
-    )
+unfolding numbersFit
+returns-2 c = simp (c .within .ensures, kept (c .before .before .before .is-area .ensures) (c .before .before .if1 .left), and-true)
 
 pub area-fits-spec : {M : Type 1} → statement M
 area-fits-spec =

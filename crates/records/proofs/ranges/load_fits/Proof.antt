@@ -1,5 +1,6 @@
+use mathlib.Core.Bool.{and-true}
 use borrow.Author.Needs.{needs}
-use Rattle.records.specs.Refusal.{loadFits}
+use Rattle.records.specs.Refusal.{numbersFit}
 use Rattle.records.proofs.Tests.{dropped, kept}
 use Rattle.records.proofs.ranges.load_fits.Statement.{statement}
 use Rattle.records.proofs.ranges.load_fits.Tie as tie
@@ -8,18 +9,19 @@ is-area-requires : tie.Need-is-area-requires
 is-area-requires c κs = search needs
 
 returns : tie.Need-returns
-unfolding loadFits
-returns c = simp (dropped (c .before .is-area .ensures) (c .if1 .taken))
+unfolding numbersFit
+returns c = simp (dropped (c .before .is-area .ensures) (c .if1 .taken), and-true)
 
 is-party-requires : tie.Need-is-party-requires
 is-party-requires c κs = search needs
 
 returns-2 : tie.Need-returns-2
-unfolding loadFits
+unfolding numbersFit
 returns-2 c =
     simp (
       dropped (c .before .is-party .ensures) (c .if2 .taken),
       kept (c .before .before .before .is-area .ensures) (c .before .before .if1 .left),
+      and-true,
     )
 
 cast-within : tie.Need-cast-within
@@ -29,12 +31,13 @@ within-requires : tie.Need-within-requires
 within-requires c κs = search needs
 
 returns-3 : tie.Need-returns-3
-unfolding loadFits
+unfolding numbersFit
 returns-3 c =
     simp (
       c .within .ensures,
       kept (c .before .before .before .is-party .ensures) (c .before .before .if2 .left),
       kept (c .before .before .before .before .before .is-area .ensures) (c .before .before .before .before .if1 .left),
+      and-true,
     )
 
 pub load-fits-spec : {M : Type 1} → statement M

@@ -1,5 +1,5 @@
 use borrow.Author.Needs.{needs}
-use Rattle.records.specs.Decoded.{faultNumber}
+use Rattle.records.specs.Kinds.{faultNumber}
 use Rattle.records.proofs.refusal.fault.Statement.{statement}
 use Rattle.records.proofs.refusal.fault.Tie as tie
 

@@ -2,6 +2,7 @@ use mathlib.Core.Path.{refl}
 use borrow.Author.Tests.{eq-eqb, ne-eqb}
 use borrow.Author.Needs.{needs}
 use Rattle.settlement.proofs.Tests.{flag}
+use Rattle.records.specs.Hours.{hourIndex}
 use Rattle.records.specs.Refusal.{refusalOf}
 use Rattle.records.proofs.Tests.{dropped, kept, at-most-of, not-at-most-of}
 use Rattle.records.proofs.refusal.hour.Statement.{statement}
@@ -44,7 +45,7 @@ hour-index-requires : tie.Need-hour-index-requires
 hour-index-requires c κs = search needs
 
 returns-5 : tie.Need-returns-5
-unfolding refusalOf
+unfolding refusalOf hourIndex
 returns-5 c =
     let far = c .before .before .before .before .before .before in
     simp (
@@ -56,7 +57,7 @@ returns-5 c =
     )
 
 returns-6 : tie.Need-returns-6
-unfolding refusalOf
+unfolding refusalOf hourIndex
 returns-6 c =
     let far = c .before .before .before .before .before .before in
     simp (

@@ -1,23 +1,23 @@
 use borrow.Author.Tests.{eq-eqb, ne-eqb}
 use borrow.Author.Needs.{needs}
-use Rattle.records.specs.Refusal.{refusalOf}
+use Rattle.records.specs.Refusal.{refusalOf, inRange}
 use Rattle.records.proofs.Tests.{dropped, kept}
 use Rattle.records.proofs.refusal.load.Statement.{statement}
 use Rattle.records.proofs.refusal.load.Tie as tie
 
 returns : tie.Need-returns
-unfolding refusalOf
+unfolding refusalOf inRange
 returns c = simp (eq-eqb _ _ (c .if1 .taken))
 
 load-fits-requires : tie.Need-load-fits-requires
 load-fits-requires c κs = search needs
 
 returns-2 : tie.Need-returns-2
-unfolding refusalOf
+unfolding refusalOf inRange
 returns-2 c = simp (dropped (c .before .load-fits .ensures) (c .if2 .taken), ne-eqb _ _ (c .before .before .if1 .left))
 
 returns-3 : tie.Need-returns-3
-unfolding refusalOf
+unfolding refusalOf inRange
 returns-3 c =
     simp (
       c .if3 .taken,
@@ -26,7 +26,7 @@ returns-3 c =
     )
 
 returns-4 : tie.Need-returns-4
-unfolding refusalOf
+unfolding refusalOf inRange
 returns-4 c =
     simp (
       c .if3 .left,

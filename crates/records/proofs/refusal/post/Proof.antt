@@ -1,49 +1,49 @@
 use borrow.Author.Tests.{eq-eqb, ne-eqb}
 use borrow.Author.Needs.{needs}
-use Rattle.records.specs.Refusal.{refusalOf}
+use Rattle.records.specs.Refusal.{refusalOf, inRange}
 use Rattle.records.proofs.Tests.{dropped, kept}
 use Rattle.records.proofs.refusal.post.Statement.{statement}
 use Rattle.records.proofs.refusal.post.Tie as tie
 
 returns : tie.Need-returns
-unfolding refusalOf
+unfolding refusalOf inRange
 returns c = simp (eq-eqb _ _ (c .if1 .taken))
 
-is-area-requires : tie.Need-is-area-requires
-is-area-requires c κs = search needs
+post-fits-requires : tie.Need-post-fits-requires
+post-fits-requires c κs = search needs
 
 returns-2 : tie.Need-returns-2
-unfolding refusalOf
-returns-2 c = simp (dropped (c .before .is-area .ensures) (c .if2 .taken), ne-eqb _ _ (c .before .before .if1 .left))
+unfolding refusalOf inRange
+returns-2 c = simp (dropped (c .before .post-fits .ensures) (c .if2 .taken), ne-eqb _ _ (c .before .before .if1 .left))
 
 returns-3 : tie.Need-returns-3
-unfolding refusalOf
+unfolding refusalOf inRange
 returns-3 c =
     simp (
       c .if3 .taken,
-      kept (c .before .before .before .is-area .ensures) (c .before .before .if2 .left),
+      kept (c .before .before .before .post-fits .ensures) (c .before .before .if2 .left),
       ne-eqb _ _ (c .before .before .before .before .if1 .left),
     )
 
 returns-4 : tie.Need-returns-4
-unfolding refusalOf
+unfolding refusalOf inRange
 returns-4 c =
     simp (
       c .if4 .taken,
       c .before .if3 .left,
-      kept (c .before .before .before .before .is-area .ensures) (c .before .before .before .if2 .left),
+      kept (c .before .before .before .before .post-fits .ensures) (c .before .before .before .if2 .left),
       ne-eqb _ _ (c .before .before .before .before .before .if1 .left),
     )
 
 returns-5 : tie.Need-returns-5
-unfolding refusalOf
+unfolding refusalOf inRange
 returns-5 c =
     simp (
       c .if4 .left,
       c .before .if3 .left,
-      kept (c .before .before .before .before .is-area .ensures) (c .before .before .before .if2 .left),
+      kept (c .before .before .before .before .post-fits .ensures) (c .before .before .before .if2 .left),
       ne-eqb _ _ (c .before .before .before .before .before .if1 .left),
     )
 
 pub post-spec : {M : Type 1} → statement M
-post-spec = tie.close (tie.spec returns is-area-requires returns-2 returns-3 returns-4 returns-5)
+post-spec = tie.close (tie.spec returns post-fits-requires returns-2 returns-3 returns-4 returns-5)

@@ -1,24 +1,24 @@
 use borrow.Author.Tests.{eq-eqb, ne-eqb}
 use borrow.Author.Needs.{needs}
-use Rattle.records.specs.Refusal.{refusalOf}
+use Rattle.records.specs.Refusal.{refusalOf, inRange}
 use Rattle.records.proofs.Tests.{dropped, kept}
 use Rattle.records.proofs.refusal.year.Statement.{statement}
 use Rattle.records.proofs.refusal.year.Tie as tie
 
 returns : tie.Need-returns
-unfolding refusalOf
+unfolding refusalOf inRange
 returns c = simp (ne-eqb _ _ (c .if1 .taken))
 
-within-requires : tie.Need-within-requires
-within-requires c κs = search needs
+year-fits-requires : tie.Need-year-fits-requires
+year-fits-requires c κs = search needs
 
 returns-2 : tie.Need-returns-2
-unfolding refusalOf
-returns-2 c = simp (dropped (c .before .within .ensures) (c .if2 .taken), eq-eqb _ _ (c .before .before .if1 .left))
+unfolding refusalOf inRange
+returns-2 c = simp (dropped (c .before .year-fits .ensures) (c .if2 .taken), eq-eqb _ _ (c .before .before .if1 .left))
 
 returns-3 : tie.Need-returns-3
-unfolding refusalOf
-returns-3 c = simp (kept (c .before .within .ensures) (c .if2 .left), eq-eqb _ _ (c .before .before .if1 .left))
+unfolding refusalOf inRange
+returns-3 c = simp (kept (c .before .year-fits .ensures) (c .if2 .left), eq-eqb _ _ (c .before .before .if1 .left))
 
 pub year-spec : {M : Type 1} → statement M
-year-spec = tie.close (tie.spec returns within-requires returns-2 returns-3)
+year-spec = tie.close (tie.spec returns year-fits-requires returns-2 returns-3)

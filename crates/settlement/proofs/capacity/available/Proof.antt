@@ -9,10 +9,10 @@ use Rattle.settlement.proofs.capacity.available.Statement.{statement}
 use Rattle.settlement.proofs.capacity.available.Tie as tie
 
 unforced-requires : tie.Need-unforced-requires
-unforced-requires c κs = (c .pre .0, unit-range _ (c .pre .1) .g-to)
+unforced-requires c κs = (c .pre .0, unit-range (c .pre .1) .efordyear-to)
 
 add-if1 : tie.Need-add-if1
-add-if1 c = omega (arith, unit-range _ (c .before .before .pre .1))
+add-if1 c = omega (arith, unit-range (c .before .before .pre .1))
 
 returns : tie.Need-returns
 unfolding available

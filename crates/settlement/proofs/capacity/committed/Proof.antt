@@ -4,21 +4,27 @@ use native.Mathlib.Nat.{le-of-lt, min-eq-left, min-eq-right}
 use borrow.Author.Needs.{needs}
 use Rattle.settlement.specs.Quantities.{installedWatts}
 use Rattle.settlement.specs.Capacity.{committed}
-use Rattle.settlement.proofs.Formulas.{committed-fits}
+use Rattle.settlement.proofs.Formulas.{CommittedFits, committed-fits}
 use Rattle.settlement.proofs.capacity.committed.Statement.{statement}
 use Rattle.settlement.proofs.capacity.committed.Tie as tie
 
+fits : (c : tie.Start) → CommittedFits (c .args .rating .eford) (c .args .days)
+fits c = committed-fits (c .pre .0) (c .pre .2) (c .pre .3)
+
 mul-average : tie.Need-mul-average
 mul-average c = search needs
+
+cast-average : tie.Need-cast-average
+cast-average c = search needs
 
 sub-average : tie.Need-sub-average
 sub-average c = search needs
 
 mul-average-2 : tie.Need-mul-average-2
-mul-average-2 c = omega (arith, committed-fits (c .pre .0) (c .pre .2) (c .pre .3))
+mul-average-2 c = omega (arith, fits (c .before .before))
 
 div-average : tie.Need-div-average
-div-average c = committed-fits (c .pre .0) (c .pre .2) (c .pre .3) .some
+div-average c = fits (c .before .before) .some
 
 returns : tie.Need-returns
 unfolding committed
@@ -30,4 +36,4 @@ returns-2 c = ap installedWatts (sym (min-eq-left (c .if1 .left)))
 
 pub committed-spec : {M : Type 1} → statement M
 committed-spec =
-    tie.close (tie.spec mul-average sub-average mul-average-2 div-average returns returns-2)
+    tie.close (tie.spec mul-average cast-average sub-average mul-average-2 div-average returns returns-2)

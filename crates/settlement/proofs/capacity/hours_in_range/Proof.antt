@@ -3,7 +3,7 @@ use native.Mathlib.Omega.{arith}
 use borrow.Author.Tests.{le-leb, lt-leb}
 use Rattle.settlement.specs.Capacity.{hoursInRange}
 use Rattle.settlement.proofs.Tests.{passed}
-use Rattle.settlement.proofs.Formulas.{service-fits}
+use Rattle.settlement.proofs.Bounds.{service-fits}
 use Rattle.settlement.proofs.capacity.hours_in_range.Statement.{statement}
 use Rattle.settlement.proofs.capacity.hours_in_range.Tie as tie
 

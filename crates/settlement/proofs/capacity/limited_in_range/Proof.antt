@@ -4,26 +4,25 @@ use native.Mathlib.Nat.{le-trans}
 use native.Mathlib.Omega.{arith}
 use borrow.Author.Needs.{needs}
 use Rattle.settlement.specs.Signed.{above}
-use Rattle.settlement.specs.Capacity.{limitedShortfall, unitLimit}
+use Rattle.settlement.specs.Capacity.{limitedShortfall, unitLimit, installedMost}
 use Rattle.settlement.proofs.Tests.{both-true}
 use Rattle.settlement.proofs.Capacities.{committed-at-most, ranges}
 use Rattle.settlement.proofs.capacity.limited_in_range.Statement.{statement}
 use Rattle.settlement.proofs.capacity.limited_in_range.Tie as tie
 
 committed-requires : tie.Need-committed-requires
-committed-requires c κs = let r = ranges _ _ _ (c .before .pre) in (r .0 .e-to, r .1 .v-to, r .1 .days-from, r .1 .days-to)
+committed-requires c κs = let r = ranges (c .before .pre) in (r .0 .eford-to, r .1 .v-to, r .1 .days-from, r .1 .days-to)
 
-committed-small : (c : tie.After-committed) → c .committed .result .0 ≤ 5000000
-committed-small c = rw (c .committed .ensures) (le-trans (committed-at-most _ _ _ _) (ranges _ _ _ (c .before .before .pre) .0 .installed-to))
+committed-small : (c : tie.After-committed) → c .committed .result .0 ≤ installedMost
+committed-small c = rw (c .committed .ensures) (le-trans (committed-at-most _ _ _ _) (ranges (c .before .before .pre) .0 .installed-to))
 
 unit-shortfall-requires : tie.Need-unit-shortfall-requires
 unit-shortfall-requires c κs = (committed-small c, both-true (c .before .before .pre) .0)
 
 unit-limit-requires : tie.Need-unit-limit-requires
-unit-limit-requires c κs = (
-  omega (arith, committed-small (c .before), ranges _ _ _ (c .before .before .before .pre) .0 .installed-to),
-  both-true (c .before .before .before .pre) .0,
-)
+unit-limit-requires c κs =
+    let (u, year) = ranges (c .before .before .before .pre) in
+    (omega (arith, committed-small (c .before), u .installed-to), u .eford-to)
 
 limited-requires : tie.Need-limited-requires
 limited-requires c κs = search needs

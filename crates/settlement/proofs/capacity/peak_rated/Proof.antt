@@ -1,11 +1,12 @@
 use native.Mathlib.Omega.{arith}
 use Rattle.settlement.specs.Capacity.{peakRated}
+use Rattle.settlement.proofs.Capacities.{unit-range}
 use Rattle.settlement.proofs.Formulas.{RatedFits, rated-fits}
 use Rattle.settlement.proofs.capacity.peak_rated.Statement.{statement}
 use Rattle.settlement.proofs.capacity.peak_rated.Tie as tie
 
-fits : (c : tie.Start) → RatedFits (c .args .t .0) (c .args .u)
-fits c = rated-fits (c .pre .0) (c .pre .1) (c .pre .2)
+fits : (c : tie.Start) → RatedFits (c .args .t .0) (c .args .rating) (c .args .hours)
+fits c = rated-fits (c .pre .0) (unit-range (c .pre .1)) (c .pre .2)
 
 mul-p : tie.Need-mul-p
 mul-p c = omega (arith, fits (c .before .before .before))

@@ -2,7 +2,7 @@ use mathlib.Core.Path.{sym, _∙_}
 use mathlib.Core.Bool.{_&&_}
 use borrow.Author.Needs.{needs}
 use Rattle.calendar.proofs.Tests.{within-to}
-use Rattle.settlement.specs.Capacity.{ratesInRange, hoursInRange, unitInRange}
+use Rattle.settlement.specs.Capacity.{installedMost, ratesInRange, hoursInRange, unitInRange}
 use Rattle.settlement.proofs.Tests.{flag, passed, failed}
 use Rattle.settlement.proofs.capacity.unit_in_range.Statement.{statement}
 use Rattle.settlement.proofs.capacity.unit_in_range.Tie as tie
@@ -14,7 +14,7 @@ rates-in-range-requires : tie.Need-rates-in-range-requires
 rates-in-range-requires c κs = search needs
 
 hours-in-range-requires : tie.Need-hours-in-range-requires
-hours-in-range-requires c κs = within-to 1 5000000 _ (sym (c .before .before .before .within .ensures) ∙ c .before .before .if1 .taken)
+hours-in-range-requires c κs = within-to 1 installedMost _ (sym (c .before .before .before .within .ensures) ∙ c .before .before .if1 .taken)
 
 returns : tie.Need-returns
 unfolding unitInRange
@@ -26,12 +26,12 @@ returns c =
 returns-2 : tie.Need-returns-2
 unfolding unitInRange
 returns-2 c =
-    failed (hoursInRange _) (flag (c .before .rates-in-range .ensures) (c .if2 .left))
+    failed (hoursInRange _ _) (flag (c .before .rates-in-range .ensures) (c .if2 .left))
     ∙ passed (flag (c .before .before .before .within .ensures) (c .before .before .if1 .taken))
 
 returns-3 : tie.Need-returns-3
 unfolding unitInRange
-returns-3 c = failed (ratesInRange _ && hoursInRange _) (flag (c .before .within .ensures) (c .if1 .left))
+returns-3 c = failed (ratesInRange _ && hoursInRange _ _) (flag (c .before .within .ensures) (c .if1 .left))
 
 pub unit-in-range-spec : {M : Type 1} → statement M
 unit-in-range-spec =

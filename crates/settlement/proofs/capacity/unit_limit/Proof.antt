@@ -1,12 +1,12 @@
 use mathlib.Core.Path.{_∙_}
 use native.Mathlib.Nat.{le-trans}
 use Rattle.settlement.specs.Signed.{above}
-use Rattle.settlement.proofs.Capacities.{unforced-at-most, unit-range}
+use Rattle.settlement.proofs.Capacities.{unforced-at-most}
 use Rattle.settlement.proofs.capacity.unit_limit.Statement.{statement}
 use Rattle.settlement.proofs.capacity.unit_limit.Tie as tie
 
 unforced-requires : tie.Need-unforced-requires
-unforced-requires c κs = (c .pre .0, unit-range _ (c .pre .1) .e-to)
+unforced-requires c κs = c .pre
 
 limit-requires : tie.Need-limit-requires
 unfolding above

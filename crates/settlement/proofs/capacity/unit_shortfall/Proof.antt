@@ -8,7 +8,7 @@ use Rattle.settlement.proofs.capacity.unit_shortfall.Statement.{stateme
 use Rattle.settlement.proofs.capacity.unit_shortfall.Tie as tie
 
 unforced-requires : tie.Need-unforced-requires
-unforced-requires c κs = (c .pre .0, omega (arith, unit-range _ (c .pre .1)))
+unforced-requires c κs = (c .pre .0, omega (arith, unit-range (c .pre .1)))
 
 available-requires : tie.Need-available-requires
 available-requires c κs = search needs

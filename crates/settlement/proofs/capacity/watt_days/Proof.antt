@@ -2,7 +2,7 @@ use native.Mathlib.Omega.{arith}
 use borrow.Author.Needs.{needs}
 use borrow.Author.Tests.{le-leb, lt-leb}
 use Rattle.settlement.specs.Capacity.{wattDays, wattDaysAnswer}
-use Rattle.settlement.proofs.Formulas.{watt-days-fit}
+use Rattle.settlement.proofs.Bounds.{watt-days-fit}
 use Rattle.settlement.proofs.capacity.watt_days.Statement.{statement}
 use Rattle.settlement.proofs.capacity.watt_days.Tie as tie
 

@@ -3,7 +3,7 @@ use Prim.Native.Nat.{_-_, _^_}
 use native.Mathlib.Omega.{arith}
 use borrow.Author.Needs.{needs}
 use borrow.Author.Tests.{le-leb, lt-leb}
-use Rattle.settlement.specs.Money.{areaInRange}
+use Rattle.settlement.specs.Money.{areaInRange, obligationsMost}
 use Rattle.settlement.proofs.Tests.{passed, failed}
 use Rattle.settlement.proofs.CappedSums.{capped-sixteen, capped-test}
 use Rattle.settlement.proofs.money.area_in_range.Statement.{statement}
@@ -27,7 +27,7 @@ returns-3 : tie.Need-returns-3
 unfolding areaInRange
 returns-3 c =
     failed _
-    (capped-test _ 1600000000 (omega arith)
+    (capped-test _ obligationsMost (omega arith)
     (capped-sixteen (c .before .before .before .before .before .args .t4) (2 ^ 64 - 1) (search needs) (c .before .capped-sum .ensures))
     ∙ lt-leb _ _ (c .if3 .taken))
     ∙ passed (le-leb _ _ (c .before .before .before .if2 .left)) ∙ passed (le-leb _ _ (c .before .before .before .before .if1 .left))
@@ -40,7 +40,7 @@ unfolding areaInRange
 returns-4 c =
     c .watts-in-range .ensures
     ∙ passed
-    (capped-test _ 1600000000 (omega arith)
+    (capped-test _ obligationsMost (omega arith)
     (capped-sixteen (c .before .before .before .before .before .before .args .t4) (2 ^ 64 - 1) (search needs) (c .before .before .capped-sum .ensures))
     ∙ le-leb _ _ (c .before .if3 .left))
     ∙ passed (le-leb _ _ (c .before .before .before .before .if2 .left)) ∙ passed (le-leb _ _ (c .before .before .before .before .before .if1 .left))

@@ -2,8 +2,9 @@ use mathlib.Core.Path.{ap, _∙_}
 use native.Mathlib.Omega.{arith}
 use borrow.Author.Needs.{needs}
 use Rattle.settlement.specs.Quantities.{cents}
-use Rattle.settlement.proofs.Sizes.{size-parts}
-use Rattle.settlement.proofs.Lines.{due-too-large, earlier-too-large, line-less}
+use Rattle.settlement.specs.Money.{line, lineAnswer, dueMost}
+use Rattle.settlement.proofs.SignedSums.{difference-parts}
+use Rattle.settlement.proofs.Sizes.{size-parts, both-within, first-past, second-past}
 use Rattle.settlement.proofs.money.line.Statement.{statement}
 use Rattle.settlement.proofs.money.line.Tie as tie
 
@@ -14,7 +15,10 @@ cents-requires : tie.Need-cents-requires
 cents-requires c κs = search needs
 
 returns : tie.Need-returns
-returns c = c .cents .ensures ∙ ap cents (due-too-large _ _ (omega arith))
+unfolding lineAnswer
+returns c =
+    let args = c .before .before .before .args in
+    c .cents .ensures ∙ ap cents (first-past dueMost (args .due .0) (args .earlier .0) _ (omega arith))
 
 size-of-requires-2 : tie.Need-size-of-requires-2
 size-of-requires-2 c κs = search needs
@@ -23,7 +27,10 @@ cents-requires-2 : tie.Need-cents-requires-2
 cents-requires-2 c κs = search needs
 
 returns-2 : tie.Need-returns-2
-returns-2 c = c .cents2 .ensures ∙ ap cents (earlier-too-large _ _ (omega arith) (omega arith))
+unfolding lineAnswer
+returns-2 c =
+    let args = c .before .before .before .before .before .args in
+    c .cents2 .ensures ∙ ap cents (second-past dueMost (args .due .0) (args .earlier .0) _ (omega arith) (omega arith))
 
 cents-above-requires : tie.Need-cents-above-requires
 cents-above-requires c κs = search needs
@@ -49,12 +56,14 @@ cents-difference-requires c κs =
     omega (arith, size-parts (start .args .due .0), size-parts (start .args .earlier .0))
 
 returns-3 : tie.Need-returns-3
+unfolding line lineAnswer
 returns-3 c =
+    let args = c .before .before .before .before .before .before .before .before .before .args in
     c .cents-difference .ensures
     ∙ ap cents
     (rw (c .before .before .before .before .cents-above .ensures .0, c .before .before .before .cents-below .ensures .0)
     (rw (c .before .before .cents-below2 .ensures .0, c .before .cents-above2 .ensures .0)
-    (line-less _ _ (omega arith) (omega arith))))
+    (difference-parts (args .due .0) (args .earlier .0) ∙ both-within dueMost (args .due .0) (args .earlier .0) _ (omega arith) (omega arith))))
 
 pub line-spec : {M : Type 1} → statement M
 line-spec =

@@ -5,7 +5,7 @@ use borrow.Author.Needs.{needs}
 use borrow.Author.Tests.{le-leb, lt-leb}
 use Rattle.calendar.specs.Sum.{sumBelow}
 use Rattle.settlement.specs.Signed.{above}
-use Rattle.settlement.specs.Shares.{wattsOf}
+use Rattle.settlement.specs.Shares.{wattsOf, netMost}
 use Rattle.settlement.specs.Money.{wattsInRange}
 use Rattle.settlement.proofs.Tests.{passed, failed}
 use Rattle.settlement.proofs.CappedSums.{capped-below, capped-test}
@@ -13,10 +13,10 @@ use Rattle.settlement.proofs.money.watts_in_range.Statement.{statement}
 use Rattle.settlement.proofs.money.watts_in_range.Tie as tie
 
 abbrev Short : tie.After-capped-sum → Type 0
-Short c = leb (sumBelow 16 (λ p. above (wattsOf (c .before .before .before .args .nets) p))) 160000000 ≡ leb (c .capped-sum .result) 160000000
+Short c = leb (sumBelow 16 (λ p. above (wattsOf (c .before .before .before .args .nets) p))) netMost ≡ leb (c .capped-sum .result) netMost
 
 short : (c : tie.After-capped-sum) → Short c
-short c = capped-test _ 160000000 (omega arith) (capped-below _ _ (c .before .before .shortfalls .ensures) (c .capped-sum .ensures))
+short c = capped-test _ netMost (omega arith) (capped-below _ _ (c .before .before .shortfalls .ensures) (c .capped-sum .ensures))
 
 shortfalls-requires : tie.Need-shortfalls-requires
 shortfalls-requires c κs = search needs
@@ -43,7 +43,7 @@ capped-sum-requires-2 c κs = search needs
 returns-2 : tie.Need-returns-2
 unfolding wattsInRange
 returns-2 c =
-    sym (capped-test _ 160000000 (omega arith) (capped-below _ _ (c .before .before .excesses .ensures) (c .capped-sum2 .ensures)))
+    sym (capped-test _ netMost (omega arith) (capped-below _ _ (c .before .before .excesses .ensures) (c .capped-sum2 .ensures)))
     ∙ passed (short (c .before .before .before .before) ∙ le-leb _ _ (c .before .before .before .if1 .left))
 
 pub watts-in-range-spec : {M : Type 1} → statement M

@@ -2,8 +2,9 @@ use mathlib.Core.Path.{ap, _∙_}
 use native.Mathlib.Omega.{arith}
 use borrow.Author.Needs.{needs}
 use Rattle.settlement.specs.Quantities.{unforcedWatts}
-use Rattle.settlement.proofs.Sizes.{size-parts}
-use Rattle.settlement.proofs.Nets.{net-too-large, share-too-large, net-more}
+use Rattle.settlement.specs.Shares.{netMost, netWith}
+use Rattle.settlement.proofs.SignedSums.{sum-parts}
+use Rattle.settlement.proofs.Sizes.{size-parts, both-within, first-past, second-past}
 use Rattle.settlement.proofs.shares.net_with.Statement.{statement}
 use Rattle.settlement.proofs.shares.net_with.Tie as tie
 
@@ -14,7 +15,10 @@ unforced-watts-requires : tie.Need-unforced-watts-requires
 unforced-watts-requires c κs = search needs
 
 returns : tie.Need-returns
-returns c = c .unforced-watts .ensures ∙ ap unforcedWatts (net-too-large _ _ (omega arith))
+unfolding netWith
+returns c =
+    let args = c .before .before .before .args in
+    c .unforced-watts .ensures ∙ ap unforcedWatts (first-past netMost (args .net .0) (args .share .0) _ (omega arith))
 
 size-of-requires-2 : tie.Need-size-of-requires-2
 size-of-requires-2 c κs = search needs
@@ -23,7 +27,10 @@ unforced-watts-requires-2 : tie.Need-unforced-watts-requires-2
 unforced-watts-requires-2 c κs = search needs
 
 returns-2 : tie.Need-returns-2
-returns-2 c = c .unforced-watts2 .ensures ∙ ap unforcedWatts (share-too-large _ _ (omega arith) (omega arith))
+unfolding netWith
+returns-2 c =
+    let args = c .before .before .before .before .before .args in
+    c .unforced-watts2 .ensures ∙ ap unforcedWatts (second-past netMost (args .net .0) (args .share .0) _ (omega arith) (omega arith))
 
 watts-above-requires : tie.Need-watts-above-requires
 watts-above-requires c κs = search needs
@@ -51,12 +58,14 @@ unforced-difference-requires c κs =
     omega (arith, size-parts (start .args .net .0), size-parts (start .args .share .0))
 
 returns-3 : tie.Need-returns-3
+unfolding netWith
 returns-3 c =
+    let args = c .before .before .before .before .before .before .before .before .before .args in
     c .unforced-difference .ensures
     ∙ ap unforcedWatts
     (rw (c .before .before .before .before .watts-above .ensures .0, c .before .before .before .watts-above2 .ensures .0)
     (rw (c .before .before .watts-below .ensures .0, c .before .watts-below2 .ensures .0)
-    (net-more _ _ (omega arith) (omega arith))))
+    (sum-parts (args .net .0) (args .share .0) ∙ both-within netMost (args .net .0) (args .share .0) _ (omega arith) (omega arith))))
 
 pub net-with-spec : {M : Type 1} → statement M
 net-with-spec =

@@ -14,10 +14,10 @@ use Rattle.settlement.proofs.shares.unit_shares.Statement.{statement}
 use Rattle.settlement.proofs.shares.unit_shares.Tie as tie
 
 abbrev Capped : tie.After-capped-sum → Type 0
-Capped c = c .capped-sum .result ≡ min (sumBelow 16 (element (c .before .before .args .t2))) (2 ^ 64 - 1)
+Capped c = c .capped-sum .result ≡ min (sumBelow 16 (element (c .before .before .args .t3))) (2 ^ 64 - 1)
 
 capped : (c : tie.After-capped-sum) → Capped c
-capped c = capped-sixteen (c .before .before .args .t2) _ (search needs) (c .capped-sum .ensures)
+capped c = capped-sixteen (c .before .before .args .t3) _ (search needs) (c .capped-sum .ensures)
 
 slice-aggregate-capped-sum : tie.Need-slice-aggregate-capped-sum
 slice-aggregate-capped-sum c = search needs
@@ -29,16 +29,16 @@ limited-shortfall-requires : tie.Need-limited-shortfall-requires
 limited-shortfall-requires c κs = search needs
 
 signed-split-requires : tie.Need-signed-split-requires
-signed-split-requires c κs = rw (c .limited-shortfall .ensures) (shortfall-splits _ _ _ (capped (c .before)))
+signed-split-requires c κs = rw (c .limited-shortfall .ensures) (shortfall-splits _ _ _ _ (capped (c .before)))
 
 returns : tie.Need-returns
 unfolding wattDaysOf
 returns c =
-    let parts = c .before .before .before .before .args .t2 in
+    let parts = c .before .before .before .before .args .t3 in
     c .signed-split .ensures
     ∙ ap (λ (w : UnforcedWatts). listBelow 16 (λ p. unforcedWatts (splitSigned (w .0) 16 (element parts) p))) (c .before .limited-shortfall .ensures)
-    ∙ ap (λ (z : ℤ). listBelow 16 (λ p. unforcedWatts (splitSigned z 16 (element parts) p))) (capped-shortfall _ _ _ (capped (c .before .before)))
-    ∙ shares-answered _ parts _
+    ∙ ap (λ (z : ℤ). listBelow 16 (λ p. unforcedWatts (splitSigned z 16 (element parts) p))) (capped-shortfall _ _ _ _ (capped (c .before .before)))
+    ∙ shares-answered _ _ parts _
 
 pub unit-shares-spec : {M : Type 1} → statement M
 unit-shares-spec =

@@ -1,0 +1,71 @@
+use native.Mathlib.Omega.{arith}
+use lib.ListN.{length-set}
+use borrow.Author.Needs.{needs}
+use Rattle.book.proofs.Ranges.{answer-most, other-unit, own-part}
+use Rattle.book.proofs.money.parts_with.Statement.{statement}
+use Rattle.book.proofs.money.parts_with.Tie as tie
+
+cast-if1 : tie.Need-cast-if1
+cast-if1 c = search needs
+
+add-if1 : tie.Need-add-if1
+add-if1 c = search needs
+
+returns : tie.Need-returns
+returns c = (omega arith, λ p h. omega (arith, other-unit (c .before .before .args .c) (c .before .before .args .u) p (c .if1 .taken)))
+
+party-index-requires : tie.Need-party-index-requires
+party-index-requires c κs = search needs
+
+cast-watt-days : tie.Need-cast-watt-days
+cast-watt-days c = search needs
+
+cast-watt-days-2 : tie.Need-cast-watt-days-2
+cast-watt-days-2 c = search needs
+
+cast-watt-days-3 : tie.Need-cast-watt-days-3
+cast-watt-days-3 c = search needs
+
+watt-days-requires : tie.Need-watt-days-requires
+watt-days-requires c κs = search needs
+
+mul-parts : tie.Need-mul-parts
+mul-parts c = search needs
+
+array-read-parts : tie.Need-array-read-parts
+array-read-parts c = search needs
+
+add-parts : tie.Need-add-parts
+add-parts c =
+    let start = c .before .before .before .before .before .before .before in
+    omega (arith, start .pre .2 _ (c .before .before .before .before .party-index .ensures .1), c .watt-days .ensures, answer-most (start .pre .0))
+
+array-write-parts : tie.Need-array-write-parts
+array-write-parts c = search needs
+
+returns-2 : tie.Need-returns-2
+returns-2 c =
+    let indexed = c .before .before .before .before in
+    let start = indexed .before .before .before in (
+      simp length-set (omega arith),
+      λ p h. own-part (start .args .c) (start .args .u) p (start .pre .0) (indexed .before .if1 .left) (start .args .t1)
+          (indexed .party-index .ensures .0) (omega (arith, indexed .party-index .ensures .1)) (c .watt-days .ensures),
+    )
+
+pub parts-with-spec : {M : Type 1} → statement M
+parts-with-spec =
+    tie.close
+    (tie.spec
+    cast-if1
+    add-if1
+    returns
+    party-index-requires
+    cast-watt-days
+    cast-watt-days-2
+    cast-watt-days-3
+    watt-days-requires
+    mul-parts
+    array-read-parts
+    add-parts
+    array-write-parts
+    returns-2)
