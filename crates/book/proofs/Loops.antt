@@ -1,16 +1,13 @@
--- Sums and lists that loops make term by term.
-use mathlib.Core.Path.{_≡_, refl, sym, ap, _∙_}
+-- Elements of lists that loops read and store.
+use mathlib.Core.Path.{_≡_, refl}
 use mathlib.Core.Bool.{Bool, true, false, cond}
 use mathlib.Core.List.{List}
-use Prim.Native.Nat.{ℕ, _+_, _≤_, _<_}
-use native.Mathlib.Omega.{arith}
+use Prim.Native.Nat.{ℕ, _<_}
 use lib.IntN.{pos}
 use lib.Dec.{eqb}
 use lib.ListN.{length, getD, set}
 use lib.Seq.{getD-set-same, getD-set-other}
 use borrow.Author.Tests.{eqb-true, eqb-false, lt-ltb}
-use Rattle.calendar.specs.Sum.{sumBelow}
-use Rattle.calendar.proofs.Sums.{sum-one-more}
 use Rattle.settlement.specs.declared.Cents.{Cents}
 use Rattle.settlement.specs.Quantities.{cents}
 use Rattle.settlement.proofs.Lists.{length-below}
@@ -18,12 +15,6 @@ use Rattle.records.specs.Format.{partyCount}
 use Rattle.book.specs.declared.Book.{Book}
 use Rattle.book.specs.Books.{areaParty, obligationIn, postedIn, Sound}
 use Rattle.book.specs.Entered.{noLines}
-
-pub more-sum : (f : ℕ → ℕ) {k s t : ℕ} → s ≡ sumBelow k f → t ≡ f k → s + t ≡ sumBelow (k + 1) f
-more-sum f {k} p q = rw (p, q) (sym (sum-one-more k f))
-
-pub all-sum : (f : ℕ → ℕ) {n k s : ℕ} → k ≤ n → n ≤ k → s ≡ sumBelow k f → s ≡ sumBelow n f
-all-sum f {n} {k} p q e = let same : k ≡ n = omega arith in e ∙ ap (λ (j : ℕ). sumBelow j f) same
 
 -- an area's obligation and posted sum of a party, at their place
 pub obligation-at : (l : List ℕ) (a p : ℕ) {k : ℕ} → p < partyCount → k ≡ areaParty a p → getD l k 0 ≡ obligationIn l a p

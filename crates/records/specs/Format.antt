@@ -35,7 +35,7 @@ pub record Format : Type 0 where
 abbrev pub field : ℕ → ℕ → ℕ → ℕ → Field
 field offset width least most = record { offset = offset; width = width; holds = within least most }
 
--- a field whose range is a rule of the whole record (`ownRule` of Refusal): any number of its width
+-- a field that has no range but a rule of the whole record (`ownRule` of Refusal)
 abbrev pub ruledAt : ℕ → ℕ → Field
 ruledAt o width = record { offset = o; width = width; holds = λ n. true }
 
