@@ -35,7 +35,7 @@ week: target/peak_week
 
 archive: $(ARCHIVE)
 
-$(LEDGER): $(call parts,calendar settlement records book ledger)
+$(LEDGER): $(call parts,numbers calendar capacity money records rules book report ledger)
 	@echo 'proving and building ledger (some four minutes from nothing)' >&2
 	@mkdir -p target
 	@rt check ledger >target/ledger.log 2>&1 || { cat target/ledger.log >&2; exit 1; }

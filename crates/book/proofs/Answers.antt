@@ -7,25 +7,24 @@ use native.Mathlib.Omega.{arith}
 use lib.Dec.{eqb}
 use lib.ListN.{getD, set}
 use borrow.Author.Tests.{ne-eqb}
-use Rattle.settlement.specs.declared.Cents.{Cents}
-use Rattle.settlement.specs.Lists.{element}
+use Rattle.numbers.specs.Lists.{element}
+use Rattle.money.specs.declared.Cents.{Cents}
 use Rattle.records.specs.declared.format.HourRecord.{HourRecord}
 use Rattle.records.specs.declared.format.Record.{Record}
 use Rattle.records.specs.declared.format.Record.the-variants.{Hour, Post}
-use Rattle.records.specs.declared.refusal.Asked.{Asked}
 use Rattle.records.specs.Format.{postFormat}
 use Rattle.records.specs.Kinds.{numbersOf, isOf}
 use Rattle.records.specs.Decoded.{decoded}
-use Rattle.records.specs.Refusal.{hasFault, noYear, secondYear, outOfRange, notEntered, secondUnit, deratedOut, notLater, row, refusalOf}
-use Rattle.records.specs.Facts.{noArea}
-use Rattle.records.specs.Dues.{unplacedIn}
-use Rattle.records.specs.Rules.{areaIndex, unitIndex, areaNamed, unitNamed, postUnplaced, askedOf, asked, refusal}
+use Rattle.rules.specs.declared.refusal.Asked.{Asked}
+use Rattle.rules.specs.Refusal.{hasFault, noYear, secondYear, outOfRange, notEntered, secondUnit, deratedOut, notLater, row, refusalOf}
+use Rattle.rules.specs.Facts.{noArea}
+use Rattle.rules.specs.Dues.{undistributedIn}
+use Rattle.rules.specs.Rules.{areaIndex, unitIndex, areaNamed, unitNamed, postUndistributed, askedOf, asked, refusal}
 use Rattle.book.specs.declared.Unit as unit
 use Rattle.book.specs.declared.Book.{Book}
 use Rattle.book.specs.declared.Answer.{Answer}
 use Rattle.book.specs.Books.{noEntry, factsOfBook, Sound}
-use Rattle.book.specs.Entered.{withHour}
-use Rattle.book.specs.Entered.{postedAfter, after, noLines, postLines, linesOf, answer, entered}
+use Rattle.book.specs.Entered.{withHour, postedAfter, after, noLines, postLines, linesOf, answer, entered}
 use Rattle.book.specs.Steps.{withPosted, postAnswer}
 use Rattle.book.proofs.AreaMoney.{due-most}
 use Rattle.book.proofs.Soundness.{entered-sound}
@@ -46,7 +45,7 @@ row-before n false e = e
 
 -- row 11 is asked where rows 1 to 10 do not fit
 settled-row : (b : Book) (r : Record)
-    → refusalOf (asked (factsOfBook b) r) r ≡ cond (eqb (refusalOf (before b r) r) 0) (cond (postUnplaced (factsOfBook b) r) 11 0) (refusalOf (before b r) r)
+    → refusalOf (asked (factsOfBook b) r) r ≡ cond (eqb (refusalOf (before b r) r) 0) (cond (postUndistributed (factsOfBook b) r) 11 0) (refusalOf (before b r) r)
 unfolding refusalOf
 settled-row b r =
     let a : Asked = before b r in
@@ -62,7 +61,7 @@ settled-row b r =
     (row-before 9 (notLater a r) (last (isOf postFormat r)))))))))))) .is
   where
     left : Bool
-    left = unplacedIn (factsOfBook b) (areaIndex (element (numbersOf r) 0))
+    left = undistributedIn (factsOfBook b) (areaIndex (element (numbersOf r) 0))
 
     last : (t : Bool) → WithLast (cond (cond t left false) 11 0) (row 11 (cond t false false) 0) (row 11 (cond t (cond t left false) false) 0)
     last true = record { is = refl }
@@ -84,26 +83,26 @@ module _ (b : Book) (s : List ℕ) where
 
   -- a record that rows 1 to 10 let pass, and row 11 too
   pub accepted : {n : ℕ} {ls : List Cents} {r : Record} {b' : Book} → r ≡ decoded s → n ≡ refusalOf (before b r) r → n ≡ 0
-      → postUnplaced (factsOfBook b) r ≡ false → ls ≡ linesOf b r → b' ≡ after b r → answer 0 ls b' ≡ entered b s
+      → postUndistributed (factsOfBook b) r ≡ false → ls ≡ linesOf b r → b' ≡ after b r → answer 0 ls b' ≡ entered b s
   unfolding entered refusal
-  accepted {n} {ls} {r} {b'} known e passed placed lines book =
+  accepted {n} {ls} {r} {b'} known e passed distributed lines book =
       let number : refusalOf (asked (factsOfBook b) (decoded s)) (decoded s) ≡ 0
-      = rw (sym known) (settled-row b r ∙ rw (sym e, passed, placed)) in
+      = rw (sym known) (settled-row b r ∙ rw (sym e, passed, distributed)) in
       rw (number, lines, book, known)
 
   -- a Post that they let pass
   pub posted : {n p : ℕ} {r : Record} {x : Answer} → r ≡ decoded s → r ≡ Post p → n ≡ refusalOf (before b r) r → n ≡ 0
       → x ≡ postAnswer b (areaIndex p) → x ≡ entered b s
   unfolding entered refusal postAnswer
-  posted {n} {p} {r} {x} known post e passed given = given ∙ go (unplacedIn (factsOfBook b) (areaIndex p)) refl
+  posted {n} {p} {r} {x} known post e passed given = given ∙ go (undistributedIn (factsOfBook b) (areaIndex p)) refl
     where
       this : decoded s ≡ Post p
       this = sym known ∙ post
 
-      number : refusalOf (asked (factsOfBook b) (Post p)) (Post p) ≡ cond (unplacedIn (factsOfBook b) (areaIndex p)) 11 0
+      number : refusalOf (asked (factsOfBook b) (Post p)) (Post p) ≡ cond (undistributedIn (factsOfBook b) (areaIndex p)) 11 0
       number = settled-row b (Post p) ∙ rw (sym (ap (λ (q : Record). refusalOf (before b q) q) post) ∙ sym e ∙ passed)
 
-      go : (t : Bool) → unplacedIn (factsOfBook b) (areaIndex p) ≡ t
+      go : (t : Bool) → undistributedIn (factsOfBook b) (areaIndex p) ≡ t
           → cond t (answer 11 noLines b) (answer 0 (postLines b (areaIndex p)) (withPosted b (postedAfter b (areaIndex p))))
           ≡ cond (eqb (refusalOf (asked (factsOfBook b) (decoded s)) (decoded s)) 0) (answer 0 (linesOf b (decoded s)) (after b (decoded s)))
           (answer (refusalOf (asked (factsOfBook b) (decoded s)) (decoded s)) noLines b)

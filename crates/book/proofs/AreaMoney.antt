@@ -1,4 +1,4 @@
--- An area's money in a sound book: it is in settlement's ranges, so that each answer is what 01 defines.
+-- An area's money in a sound book: it is in the ranges of `capacity` and `money`, so that each answer is what 01 defines.
 use mathlib.Core.Path.{_≡_, refl, ap, _∙_}
 use mathlib.Core.Bool.{Bool, true, false, cond}
 use mathlib.Core.List.{List}
@@ -9,22 +9,23 @@ use lib.IntN.{ℤ, pos, natAbs}
 use lib.Dec.{eqb, ltb}
 use lib.ListN.{getD}
 use borrow.Author.Tests.{le-leb}
+use Rattle.numbers.specs.Lists.{listBelow, element}
+use Rattle.numbers.proofs.Tests.{within-to}
+use Rattle.numbers.proofs.Sums.{sum-bounded}
+use Rattle.numbers.proofs.Lists.{list-same}
 use Rattle.calendar.specs.DeliveryYear.{deliveryDays}
-use Rattle.calendar.proofs.Tests.{within-to}
-use Rattle.settlement.specs.declared.Cents.{Cents}
-use Rattle.settlement.specs.declared.money.AreaMoney.{AreaMoney}
-use Rattle.settlement.specs.declared.UnforcedWatts.{UnforcedWatts}
-use Rattle.settlement.specs.Lists.{listBelow, element}
-use Rattle.settlement.specs.Quantities.{cents, unforcedWatts}
-use Rattle.settlement.specs.Shares.{wattsOf}
-use Rattle.settlement.specs.Money.{dueMost, areaInRange, settled, centsOf, moneyAnswer, line, lineAnswer, linesAnswer}
-use Rattle.settlement.proofs.Sums.{sum-bounded}
-use Rattle.settlement.proofs.Lists.{list-same}
-use Rattle.settlement.proofs.Bounds.{due-bound}
-use Rattle.settlement.proofs.Sixteen.{range-same, settled-same}
+use Rattle.capacity.specs.declared.UnforcedWatts.{UnforcedWatts}
+use Rattle.capacity.specs.Quantities.{unforcedWatts, wattsOf}
+use Rattle.money.specs.declared.Cents.{Cents}
+use Rattle.money.specs.declared.area.AreaMoney.{AreaMoney}
+use Rattle.money.specs.Quantities.{cents, centsOf}
+use Rattle.money.specs.AreaMoney.{dueMost, areaInRange, settled, moneyAnswer}
+use Rattle.money.specs.Lines.{line, lineAnswer, linesAnswer}
+use Rattle.money.proofs.Bounds.{due-bound}
+use Rattle.money.proofs.Sixteen.{range-same, settled-same}
 use Rattle.records.specs.Format.{partyCount}
-use Rattle.records.specs.Facts.{Facts}
-use Rattle.records.specs.Dues.{days, netIn, dueIn, unplacedIn, settledIn}
+use Rattle.rules.specs.Facts.{Facts}
+use Rattle.rules.specs.Dues.{days, netIn, dueIn, undistributedIn, settledIn}
 use Rattle.book.specs.declared.Book.{Book}
 use Rattle.book.specs.Books.{pairCount, areaParty, obligationIn, postedIn, factsOfBook, Sound}
 use Rattle.book.specs.Entered.{postLines, postedAfter}
@@ -42,7 +43,7 @@ obligation-most l a each p = go (ltb p partyCount)
 
 -- what a settled area holds
 settled-is : (F : Facts) (a : ℕ) → settled (netIn F a) (F .area a .price) (days F) (F .obligation a) ≡ settledIn F a
-unfolding settled dueIn unplacedIn
+unfolding settled dueIn undistributedIn
 settled-is F a = refl
 
 module _ (b : Book) where
@@ -82,7 +83,7 @@ module _ (b : Book) where
       loads-are : (p : ℕ) → p < partyCount → element os p ≡ F .obligation a p
       loads-are p h = element-of (obligationIn (b .obligations) a) eo p 0 h
 
-  -- no line meets the guard of settlement
+  -- no line meets the guard of `money`
   line-posted : Sound b → (a p : ℕ) → p < partyCount → lineAnswer (dueIn F a p) (postedIn (b .posted) a p) ≡ line (dueIn F a p) (postedIn (b .posted) a p)
   unfolding lineAnswer
   line-posted s a p h = simp (le-leb _ _ (due-most s a p h), le-leb _ _ (s .posted .each (areaParty a p)))

@@ -1,4 +1,4 @@
--- An area's nets unit by unit: each unit's share is one split, and in a sound book no guard of settlement is met.
+-- An area's nets unit by unit: each unit's share is one split, and in a sound book no guard of `capacity` is met.
 use mathlib.Core.Path.{_≡_, refl, sym, ap, _∙_}
 use mathlib.Core.Bool.{Bool, true, false, cond}
 use mathlib.Core.List.{List}
@@ -12,31 +12,31 @@ use lib.Dec.{eqb}
 use lib.ListN.{length, getD}
 use lib.Seq.{ext-getD}
 use borrow.Author.Tests.{eqb-true, eq-eqb, le-leb}
-use Rattle.calendar.specs.Sum.{sumBelow}
-use Rattle.calendar.specs.Range.{within}
+use Rattle.numbers.specs.Sum.{sumBelow}
+use Rattle.numbers.specs.Range.{within}
+use Rattle.numbers.specs.Lists.{listBelow, element}
+use Rattle.numbers.specs.Signed.{above, below, sumBelowℤ}
+use Rattle.numbers.specs.Split.{withSign, splitSigned}
+use Rattle.numbers.proofs.Sums.{sum-grows, sum-one-more, sum-same, sum-at-most, sum-exchange, sum-bounded, sum-picked}
+use Rattle.numbers.proofs.Tests.{within-holds}
+use Rattle.numbers.proofs.Lists.{length-below, element-below, list-same}
+use Rattle.numbers.proofs.SignedSums.{sum-sameℤ}
+use Rattle.numbers.proofs.Splits.{no-amount}
 use Rattle.calendar.specs.Gregorian.{leapYear}
 use Rattle.calendar.specs.DeliveryYear.{deliveryDays}
-use Rattle.calendar.proofs.Sums.{sum-grows, sum-one-more}
-use Rattle.calendar.proofs.Tests.{within-holds}
-use Rattle.settlement.specs.declared.UnforcedWatts.{UnforcedWatts}
-use Rattle.settlement.specs.Lists.{listBelow, element}
-use Rattle.settlement.specs.Signed.{above, below, sumBelowℤ}
-use Rattle.settlement.specs.Quantities.{unforcedWatts}
-use Rattle.settlement.specs.Capacity.{installedMost, hoursMost, wattDaysMost, wattDays, partOf, wattDaysOf, limitedShortfall, ratesInRange, hoursInRange, unitInRange, yearInRange}
-use Rattle.settlement.specs.Split.{withSign, splitSigned}
-use Rattle.settlement.specs.Shares.{unitShare, net, wattsOf, sharesAnswer, netWith, netsAnswer}
-use Rattle.settlement.specs.Money.{wattsInRange}
-use Rattle.settlement.proofs.Sums.{sum-same, sum-at-most, sum-exchange, sum-bounded, sum-picked}
-use Rattle.settlement.proofs.Lists.{length-below, element-below, list-same}
-use Rattle.settlement.proofs.SignedSums.{sum-sameℤ}
-use Rattle.settlement.proofs.Splits.{no-amount}
-use Rattle.settlement.proofs.Capacities.{limited-shortfall-size}
-use Rattle.settlement.proofs.Bounds.{shortfalls-bound, excesses-bound, net-steps}
-use Rattle.settlement.proofs.Sixteen.{watt-days-same, shares-same}
+use Rattle.capacity.specs.declared.UnforcedWatts.{UnforcedWatts}
+use Rattle.capacity.specs.Quantities.{unforcedWatts, wattsOf}
+use Rattle.capacity.specs.Shortfall.{installedMost, hoursMost, wattDaysMost, wattDays, partOf, wattDaysOf, limitedShortfall, ratesInRange, hoursInRange}
+use Rattle.capacity.specs.Shortfall.{unitInRange, yearInRange}
+use Rattle.capacity.specs.Shares.{unitShare, net, sharesAnswer, netWith, netsAnswer}
+use Rattle.capacity.proofs.Capacities.{limited-shortfall-size}
+use Rattle.capacity.proofs.Bounds.{shortfalls-bound, excesses-bound, net-steps}
+use Rattle.capacity.proofs.Nets.{watt-days-same, shares-same}
+use Rattle.money.specs.AreaMoney.{wattsInRange}
 use Rattle.records.specs.declared.format.CommitmentRecord.{CommitmentRecord}
 use Rattle.records.specs.Format.{unitCount, commitmentCount, partyCount}
-use Rattle.records.specs.Facts.{Facts}
-use Rattle.records.specs.Dues.{days, wattDaysFor, partFor, shareIn, netIn}
+use Rattle.rules.specs.Facts.{Facts}
+use Rattle.rules.specs.Dues.{days, wattDaysFor, partFor, shareIn, netIn}
 use Rattle.book.specs.declared.Unit.{Unit}
 use Rattle.book.specs.declared.Book.{Book}
 use Rattle.book.specs.Books.{noEntry, commitmentIn, factsOfBook, SoundUnit, SoundCommitments, Sound}
@@ -50,7 +50,7 @@ element-of f e k d h = rw e (element-below partyCount f k d h)
 pub watts-at : (f : ℕ → ℤ) {l : List UnforcedWatts} → l ≡ listBelow partyCount (λ p. unforcedWatts (f p)) → (p : ℕ) → p < partyCount → wattsOf l p ≡ f p
 watts-at f e p h = ap (λ (w : UnforcedWatts). w .0) (element-of (λ q. unforcedWatts (f q)) e p (unforcedWatts (pos 0)) h)
 
--- a unit of an area is in the ranges of settlement
+-- a unit of an area is in the ranges of `capacity`
 unit-in-range : (u : Unit) (a : ℕ) → SoundUnit u → u .entry .area ≡ a + 1 → unitInRange (u .entry .rating) (u .hours) ≡ true
 unfolding unitInRange ratesInRange hoursInRange
 unit-in-range u a s e =

@@ -8,23 +8,22 @@ use native.Mathlib.Omega.{arith}
 use lib.Dec.{leb}
 use lib.ListN.{length, take, drop}
 use borrow.Author.Tests.{ne-eqb, leb-true}
-use Rattle.calendar.specs.Range.{within}
+use Rattle.numbers.specs.Range.{within}
 use Rattle.records.specs.declared.format.HourRecord.{HourRecord}
 use Rattle.records.specs.declared.format.Record.the-variants.{Hour}
-use Rattle.records.specs.declared.refusal.Asked.{Asked}
-use Rattle.records.specs.Decoded.{decoded}
+use Rattle.records.specs.Decoded.{decoded, noHour, hourOf}
 use Rattle.records.specs.Format.{hourFormat}
 use Rattle.records.specs.Kinds.{numbersOf, hourFrom, isOf}
-use Rattle.records.specs.Hours.{noHour, hourOf}
-use Rattle.records.specs.Refusal.{refusalOf}
-use Rattle.records.specs.Rules.{index, areaIndex}
+use Rattle.records.proofs.OneKind.{is-made}
+use Rattle.rules.specs.declared.refusal.Asked.{Asked}
+use Rattle.rules.specs.Refusal.{refusalOf}
+use Rattle.rules.specs.Rules.{index, areaIndex}
+use Rattle.rules.proofs.Fields.{numbers-fit}
+use Rattle.rules.proofs.AcceptedRows as rows
 use Rattle.book.specs.declared.Book.{Book}
 use Rattle.book.specs.declared.Answer.{Answer}
 use Rattle.book.specs.Entered.{noLines, answer, after, entered}
 use Rattle.book.specs.Runs.{hourLength, hourBytes, isAcceptedHour, run, hoursOf, hoursBetween}
-use Rattle.records.proofs.OneKind.{is-made}
-use Rattle.records.proofs.Fields.{numbers-fit}
-use Rattle.records.proofs.AcceptedRows as rows
 use Rattle.book.proofs.Answers.{before, refused, accepted}
 
 -- the bytes of an Hour hold one more than what is left without them does

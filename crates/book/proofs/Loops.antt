@@ -1,16 +1,13 @@
 -- Elements of lists that loops read and store.
-use mathlib.Core.Path.{_≡_, refl}
-use mathlib.Core.Bool.{Bool, true, false, cond}
+use mathlib.Core.Path.{_≡_}
 use mathlib.Core.List.{List}
 use Prim.Native.Nat.{ℕ, _<_}
 use lib.IntN.{pos}
-use lib.Dec.{eqb}
-use lib.ListN.{length, getD, set}
-use lib.Seq.{getD-set-same, getD-set-other}
-use borrow.Author.Tests.{eqb-true, eqb-false, lt-ltb}
-use Rattle.settlement.specs.declared.Cents.{Cents}
-use Rattle.settlement.specs.Quantities.{cents}
-use Rattle.settlement.proofs.Lists.{length-below}
+use lib.ListN.{length, getD}
+use borrow.Author.Tests.{lt-ltb}
+use Rattle.numbers.proofs.Lists.{length-below}
+use Rattle.money.specs.declared.Cents.{Cents}
+use Rattle.money.specs.Quantities.{cents}
 use Rattle.records.specs.Format.{partyCount}
 use Rattle.book.specs.declared.Book.{Book}
 use Rattle.book.specs.Books.{areaParty, obligationIn, postedIn, Sound}
@@ -29,11 +26,3 @@ sixteen e = rw e (length-below partyCount (λ p. cents (pos 0)))
 -- a book that is known to be a sound one
 pub sound-of : {b r : Book} → Sound b → r ≡ b → (r ≡ b) × Sound r
 sound-of h e = (e, rw e h)
-
--- an element after a store
-pub stored-at : {A : Type 0} (l : List A) (i k : ℕ) (x d : A) → i < length l → getD (set l i x) k d ≡ cond (eqb k i) x (getD l k d)
-stored-at l i k x d h = go (eqb k i) refl
-  where
-    go : (t : Bool) → eqb k i ≡ t → getD (set l i x) k d ≡ cond t x (getD l k d)
-    go true q = rw (eqb-true k i q) (getD-set-same l i x d h)
-    go false q = getD-set-other l i k x d (eqb-false k i q)

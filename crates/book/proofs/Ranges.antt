@@ -9,17 +9,17 @@ use native.Mathlib.Omega.{arith}
 use lib.Dec.{eqb}
 use lib.ListN.{length, set}
 use borrow.Author.Tests.{eq-eqb, ne-eqb, le-leb}
-use Rattle.calendar.specs.Range.{within}
-use Rattle.settlement.specs.Lists.{element}
-use Rattle.settlement.specs.Capacity.{installedMost, commitmentMost, hoursMost, wattDays, wattDaysAnswer}
+use Rattle.numbers.specs.Range.{within}
+use Rattle.numbers.specs.Lists.{element}
+use Rattle.numbers.proofs.Lists.{stored-at}
+use Rattle.capacity.specs.Shortfall.{installedMost, commitmentMost, hoursMost, wattDays, wattDaysAnswer}
 use Rattle.records.specs.declared.format.CommitmentRecord.{CommitmentRecord}
 use Rattle.records.specs.Format.{partyCount}
-use Rattle.records.specs.Rules.{partyIndex}
-use Rattle.records.proofs.Named.{named-by, named-index}
+use Rattle.rules.specs.Rules.{partyIndex}
+use Rattle.rules.proofs.Named.{named-by, named-index}
 use Rattle.book.specs.declared.Unit.{Unit}
 use Rattle.book.specs.Books.{SoundUnit, SoundCommitment}
 use Rattle.book.specs.Steps.{partMost, commitmentPart}
-use Rattle.book.proofs.Loops.{stored-at}
 
 -- D is below 2^36 however the hours fell
 pub derated-most : {u : Unit} → SoundUnit u → u .hours .derated ≤ 43920000000

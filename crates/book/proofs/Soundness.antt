@@ -3,63 +3,43 @@ use mathlib.Core.Path.{_≡_, refl, _∙_}
 use mathlib.Core.Bool.{Bool, true, false, cond, _&&_}
 use mathlib.Core.List.{List, [], _∷_}
 use mathlib.Core.Logic.{inl, inr}
-use Prim.Native.Nat.{ℕ, zero, suc, _+_, _*_, _/_, _%_, _≤_, _<_}
+use Prim.Native.Nat.{ℕ, _+_, _*_, _/_, _%_, _≤_, _<_}
 use native.Mathlib.Nat.{add-mul, mod-lt}
 use native.Mathlib.Omega.{arith}
 use lib.IntN.{pos, natAbs}
-use lib.Dec.{eqb, ltb, leb}
-use lib.ListN.{length, getD, set, length-set, List·getD-eq-default}
-use borrow.Author.Tests.{ltb-true, ltb-false, leb-true, leb-false, eqb-true}
+use lib.Dec.{eqb, leb}
+use lib.ListN.{getD, set, length-set}
+use borrow.Author.Tests.{ltb-true, leb-true, leb-false, eqb-true}
+use Rattle.numbers.specs.Lists.{listBelow}
+use Rattle.numbers.proofs.Tests.{within-from, within-to, both-true}
+use Rattle.numbers.proofs.Lists.{length-below, each-made, each-stored}
 use Rattle.calendar.specs.DeliveryYear.{deliveryDays}
-use Rattle.calendar.proofs.Tests.{within-from, within-to}
 use Rattle.calendar.proofs.DeliveryYears.{day-small}
-use Rattle.settlement.specs.Lists.{listBelow}
-use Rattle.settlement.specs.declared.Cents.{Cents}
-use Rattle.settlement.specs.Quantities.{cents}
-use Rattle.settlement.specs.Money.{dueMost}
-use Rattle.settlement.proofs.Tests.{both-true}
-use Rattle.settlement.proofs.Lists.{length-below, element-below}
-use Rattle.records.proofs.ByKind.{chosen, as-made, fit}
+use Rattle.money.specs.declared.Cents.{Cents}
+use Rattle.money.specs.Quantities.{cents}
+use Rattle.money.specs.AreaMoney.{dueMost}
 use Rattle.records.specs.declared.format.UnitRecord.{UnitRecord}
 use Rattle.records.specs.declared.format.CommitmentRecord.{CommitmentRecord}
 use Rattle.records.specs.declared.format.HourRecord.{HourRecord}
 use Rattle.records.specs.declared.format.Record.{Record}
 use Rattle.records.specs.declared.format.Record.the-variants.{Unit, Commitment, Hour}
-use Rattle.records.specs.Format.{areaCount, unitCount, commitmentCount, partyCount}
-use Rattle.records.specs.Format.{yearFormat, areaFormat, unitFormat, commitmentFormat, hourFormat, loadFormat, postFormat}
+use Rattle.records.specs.Format.{areaCount, unitCount, commitmentCount, partyCount, yearFormat, areaFormat, unitFormat, commitmentFormat, hourFormat}
+use Rattle.records.specs.Format.{loadFormat, postFormat}
 use Rattle.records.specs.Decoded.{decoded}
-use Rattle.records.specs.Facts.{noArea, noCommitment}
-use Rattle.records.specs.Hours.{derated, excused, forcedOut, hourIndex, serviceHour, outageHour, deratedWatts, counted, isPeak}
-use Rattle.records.specs.Refusal.{daysFit, inRange, refusalOf}
-use Rattle.records.specs.Dues.{dueIn}
-use Rattle.records.specs.Rules.{unitIndex, asked, refusal}
 use Rattle.records.specs.Kinds.{isOf}
-use Rattle.records.proofs.Fields.{numbers-fit, rule-holds}
-use Rattle.records.proofs.AcceptedRows.{Accepted, accepted}
+use Rattle.rules.specs.Facts.{noArea, noCommitment}
+use Rattle.rules.specs.Hours.{derated, excused, forcedOut, hourIndex, serviceHour, outageHour, deratedWatts, counted, isPeak}
+use Rattle.rules.specs.Refusal.{daysFit, inRange, refusalOf}
+use Rattle.rules.specs.Dues.{dueIn}
+use Rattle.rules.specs.Rules.{unitIndex, asked, refusal}
+use Rattle.rules.proofs.ByKind.{chosen, as-made, fit}
+use Rattle.rules.proofs.Fields.{numbers-fit, rule-holds}
+use Rattle.rules.proofs.AcceptedRows.{Accepted, accepted}
 use Rattle.book.specs.declared.Unit as unit
 use Rattle.book.specs.declared.Book.{Book}
 use Rattle.book.specs.Books.{noEntry, factsOfBook, emptyBook, pairCount, SoundUnit, SoundCommitment, Array, Sound}
 use Rattle.book.specs.Entered.{newUnit, withHour, postedAfter, after, entered, bookAfter}
 use Rattle.book.proofs.AreaNets.{days-in-range}
-
--- what holds of the default and of every value of a list holds at every place, past the list's end too
-module _ {A : Type 0} (P : A → Type 0) (d : A) where
-  pub each-made : (n : ℕ) (f : ℕ → A) → P d → ((k : ℕ) → k < n → P (f k)) → (k : ℕ) → P (getD (listBelow n f) k d)
-  each-made n f end all k = go (ltb k n) refl
-    where
-      go : (t : Bool) → ltb k n ≡ t → P (getD (listBelow n f) k d)
-      go true q = rw (element-below n f k d (ltb-true k n q)) (all k (ltb-true k n q))
-      go false q =
-          let past : length (listBelow n f) ≤ k = rw (length-below n f) (ltb-false k n q) in
-          rw (List·getD-eq-default (listBelow n f) d {n = k} past) end
-
-  -- also after a store
-  each-stored : (l : List A) (i : ℕ) (x : A) → P x → ((k : ℕ) → P (getD l k d)) → (k : ℕ) → P (getD (set l i x) k d)
-  each-stored [] i x new old k = old k
-  each-stored (y ∷ l) zero x new old zero = new
-  each-stored (y ∷ l) zero x new old (suc k) = old (suc k)
-  each-stored (y ∷ l) (suc i) x new old zero = old zero
-  each-stored (y ∷ l) (suc i) x new old (suc k) = each-stored l i x new (λ j. old (suc j)) k
 
 -- places without a unit or a commitment
 no-unit-sound : SoundUnit noEntry

@@ -7,17 +7,17 @@ use Prim.Native.Nat.{ℕ, _+_, _*_, _≤_}
 use lib.IntN.{ℤ, pos, natAbs}
 use lib.Dec.{ltb}
 use lib.ListN.{length, getD}
-use Rattle.calendar.specs.Range.{within}
-use Rattle.settlement.specs.declared.Cents.{Cents}
-use Rattle.settlement.specs.declared.capacity.Rating.{Rating}
-use Rattle.settlement.specs.Lists.{listBelow}
-use Rattle.settlement.specs.Quantities.{cents}
-use Rattle.settlement.specs.Capacity.{installedMost, rateMost, commitmentMost, hoursMost}
-use Rattle.settlement.specs.Money.{dueMost}
+use Rattle.numbers.specs.Range.{within}
+use Rattle.numbers.specs.Lists.{listBelow}
+use Rattle.capacity.specs.declared.rating.Rating.{Rating}
+use Rattle.capacity.specs.Shortfall.{installedMost, rateMost, commitmentMost, hoursMost}
+use Rattle.money.specs.declared.Cents.{Cents}
+use Rattle.money.specs.Quantities.{cents}
+use Rattle.money.specs.AreaMoney.{dueMost}
 use Rattle.records.specs.declared.format.AreaRecord.{AreaRecord}
 use Rattle.records.specs.declared.format.CommitmentRecord.{CommitmentRecord}
 use Rattle.records.specs.Format.{areaCount, unitCount, commitmentCount, partyCount}
-use Rattle.records.specs.Facts.{Facts, noArea, noUnit, noCommitment, noHours}
+use Rattle.rules.specs.Facts.{Facts, noArea, noUnit, noCommitment, noHours}
 use Rattle.book.specs.declared.Unit.{Unit}
 use Rattle.book.specs.declared.Book.{Book}
 

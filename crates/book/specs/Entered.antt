@@ -5,20 +5,20 @@ use Prim.Native.Nat.{ℕ, _/_, _%_}
 use lib.IntN.{pos}
 use lib.Dec.{eqb}
 use lib.ListN.{getD, set}
-use Rattle.settlement.specs.declared.Cents.{Cents}
-use Rattle.settlement.specs.Lists.{listBelow}
-use Rattle.settlement.specs.Quantities.{cents}
-use Rattle.settlement.specs.Money.{line}
+use Rattle.numbers.specs.Lists.{listBelow}
+use Rattle.money.specs.declared.Cents.{Cents}
+use Rattle.money.specs.Quantities.{cents}
+use Rattle.money.specs.Lines.{line}
 use Rattle.records.specs.declared.format.UnitRecord.{UnitRecord}
 use Rattle.records.specs.declared.format.HourRecord.{HourRecord}
 use Rattle.records.specs.declared.format.Record.{Record}
 use Rattle.records.specs.Format.{partyCount}
 use Rattle.records.specs.Decoded.{decoded}
 use Rattle.records.specs.Kinds.{ofYear, ofArea, ofUnit, ofCommitment, ofHour, ofLoad, ofPost}
-use Rattle.records.specs.Hours.{hourIndex, counted}
-use Rattle.records.specs.Facts.{noHours}
-use Rattle.records.specs.Dues.{dueIn}
-use Rattle.records.specs.Rules.{areaIndex, unitIndex, numberIndex, partyIndex, refusal}
+use Rattle.rules.specs.Hours.{hourIndex, counted}
+use Rattle.rules.specs.Facts.{noHours}
+use Rattle.rules.specs.Dues.{dueIn}
+use Rattle.rules.specs.Rules.{areaIndex, unitIndex, numberIndex, partyIndex, refusal}
 use Rattle.book.specs.declared.Unit as unit
 use Rattle.book.specs.declared.Book.{Book}
 use Rattle.book.specs.declared.Answer.{Answer}

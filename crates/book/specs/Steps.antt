@@ -3,14 +3,14 @@ use mathlib.Core.Bool.{cond}
 use mathlib.Core.List.{List}
 use Prim.Native.Nat.{ℕ, _+_, _*_}
 use lib.Dec.{eqb}
-use Rattle.settlement.specs.declared.UnforcedWatts.{UnforcedWatts}
-use Rattle.settlement.specs.declared.Cents.{Cents}
-use Rattle.settlement.specs.Lists.{listBelow}
-use Rattle.settlement.specs.Capacity.{commitmentMost, wattDays}
-use Rattle.settlement.specs.Shares.{sharesAnswer, netsAnswer}
+use Rattle.numbers.specs.Lists.{listBelow}
+use Rattle.capacity.specs.declared.UnforcedWatts.{UnforcedWatts}
+use Rattle.capacity.specs.Shortfall.{commitmentMost, wattDays}
+use Rattle.capacity.specs.Shares.{sharesAnswer, netsAnswer}
+use Rattle.money.specs.declared.Cents.{Cents}
 use Rattle.records.specs.declared.format.CommitmentRecord.{CommitmentRecord}
 use Rattle.records.specs.Format.{partyCount}
-use Rattle.records.specs.Dues.{partFor, unplacedIn}
+use Rattle.rules.specs.Dues.{partFor, undistributedIn}
 use Rattle.book.specs.declared.Unit as unit
 use Rattle.book.specs.declared.Book.{Book}
 use Rattle.book.specs.declared.Answer.{Answer}
@@ -45,4 +45,4 @@ withPosted b new = record {
 
 -- a post of area a, where rows 1 to 10 do not fit: row 11, or the lines and the posted sums
 unfoldable pub postAnswer : Book → ℕ → Answer
-postAnswer b a = cond (unplacedIn (factsOfBook b) a) (answer 11 noLines b) (answer 0 (postLines b a) (withPosted b (postedAfter b a)))
+postAnswer b a = cond (undistributedIn (factsOfBook b) a) (answer 11 noLines b) (answer 0 (postLines b a) (withPosted b (postedAfter b a)))

@@ -1,10 +1,14 @@
 // The book: units, commitments and posted sums, one value; records are entered, and areas posted.
-use crate::money::area_party;
-use crate::money::no_lines;
-use crate::money::post;
+use crate::post::area_party;
+use crate::post::no_lines;
+use crate::post::post;
 use crate::units::new_unit;
 use crate::units::no_hours;
 use crate::units::with_hour;
+use capacity::InstalledWatts;
+use capacity::rating::HourCounts;
+use capacity::rating::Rating;
+use money::Cents;
 use records::decode::decode;
 use records::decode::hour_of;
 use records::format::AreaRecord;
@@ -12,19 +16,15 @@ use records::format::CommitmentRecord;
 use records::format::HOUR_BYTES;
 use records::format::Record;
 use records::format::UnitRecord;
-use records::indices::area_named;
-use records::indices::number_index;
-use records::indices::party_index;
-use records::indices::unit_index;
-use records::indices::unit_named;
-use records::refusal::asked_of;
-use records::refusal::hour;
-use records::refusal::refusal;
 use records::stream::end_of;
-use settlement::Cents;
-use settlement::InstalledWatts;
-use settlement::capacity::HourCounts;
-use settlement::capacity::Rating;
+use rules::indices::area_named;
+use rules::indices::number_index;
+use rules::indices::party_index;
+use rules::indices::unit_index;
+use rules::indices::unit_named;
+use rules::refusal::asked_of;
+use rules::refusal::hour;
+use rules::refusal::refusal;
 ghost use mathlib.Core.Path.{_≡_};
 ghost use Rattle.book.specs.Books.{emptyBook, Sound};
 ghost use Rattle.book.specs.Entered.{noLines, answer, entered};
@@ -200,5 +200,5 @@ pub(crate) fn without_lines(number: u32, book: Book) -> Answer
 }
 
 pub mod laws;
-mod money;
+mod post;
 mod units;

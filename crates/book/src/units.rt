@@ -1,14 +1,14 @@
 // A unit: as it is entered, and with an hour more.
 use crate::Unit;
+use capacity::rating::HourCounts;
 use records::format::HourRecord;
 use records::format::UnitRecord;
-use records::hour::derated_watts;
-use records::hour::hour_index;
-use records::hour::outage_hour;
-use records::hour::service_hour;
-use settlement::capacity::HourCounts;
+use rules::hour::derated_watts;
+use rules::hour::hour_index;
+use rules::hour::outage_hour;
+use rules::hour::service_hour;
 ghost use mathlib.Core.Path.{_≡_};
-ghost use Rattle.records.specs.Facts.{noHours};
+ghost use Rattle.rules.specs.Facts.{noHours};
 ghost use Rattle.book.specs.Books.{SoundUnit};
 ghost use Rattle.book.specs.Entered.{newUnit, withHour};
 

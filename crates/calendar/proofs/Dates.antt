@@ -6,11 +6,11 @@ use Prim.Native.Nat.{ℕ, _+_, _≤_, _<_}
 use native.Mathlib.Omega.{arith}
 use lib.Dec.{ltb, eqb}
 use borrow.Author.Tests.{ltb-true, ltb-false, eqb-true}
-use Rattle.calendar.specs.Sum.{sumBelow}
+use Rattle.numbers.specs.Sum.{sumBelow}
+use Rattle.numbers.proofs.Tests.{or-cases, within-from, within-to, within-holds}
+use Rattle.numbers.proofs.Sums.{sum-one-more, sum-term}
 use Rattle.calendar.specs.Gregorian.{monthDays, leapYear, daysOfMonth, isDate, daysBeforeYear, dayOfYear, dayNumber, Date, isEarlier, nextDate}
 use Rattle.calendar.specs.Laws.{dayNumberOf, isDateOf}
-use Rattle.calendar.proofs.Tests.{or-cases, within-from, within-to, within-holds}
-use Rattle.calendar.proofs.Sums.{sum-one-more, sum-term}
 use Rattle.calendar.proofs.Months.{no-month, month-starts, year-months, before-january}
 use Rattle.calendar.proofs.Years.{year-step, year-grows}
 

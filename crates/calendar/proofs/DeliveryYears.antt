@@ -5,11 +5,11 @@ use Prim.Native.Nat.{ℕ, _+_, _-_, _≤_, _<_}
 use native.Mathlib.Omega.{arith}
 use lib.Dec.{leb}
 use borrow.Author.Tests.{leb-true, leb-false, le-leb, lt-leb}
-use Rattle.calendar.specs.Sum.{sumBelow}
-use Rattle.calendar.specs.Range.{within}
+use Rattle.numbers.specs.Sum.{sumBelow}
+use Rattle.numbers.specs.Range.{within}
+use Rattle.numbers.proofs.Sums.{sum-grows, sum-term}
 use Rattle.calendar.specs.Gregorian.{monthDays, leapYear, isDate, dayOfYear, dayNumber}
 use Rattle.calendar.specs.DeliveryYear.{deliveryDays, calendarYear, isDeliveryDate, deliveryDay}
-use Rattle.calendar.proofs.Sums.{sum-grows, sum-term}
 use Rattle.calendar.proofs.Months.{year-small, year-months, before-june}
 use Rattle.calendar.proofs.Years.{year-step}
 use Rattle.calendar.proofs.Dates.{DateFacts, date-facts}

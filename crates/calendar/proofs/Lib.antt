@@ -1,5 +1,3 @@
-pub mod Tests
-pub mod Sums
 pub mod Months
 pub mod Years
 pub mod Dates

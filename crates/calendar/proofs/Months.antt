@@ -5,11 +5,11 @@ use Prim.Native.Nat.{ℕ, _+_, _<_, _≤_}
 use native.Mathlib.Omega.{arith}
 use lib.Dec.{leb, ltb, eqb}
 use borrow.Author.Tests.{eqb-true, ne-eqb, leb-true, lt-leb}
-use Rattle.calendar.specs.Sum.{sumBelow}
-use Rattle.calendar.specs.Range.{within}
+use Rattle.numbers.specs.Sum.{sumBelow}
+use Rattle.numbers.specs.Range.{within}
+use Rattle.numbers.proofs.Tests.{allBelow, each-below}
+use Rattle.numbers.proofs.Sums.{sum-grows}
 use Rattle.calendar.specs.Gregorian.{monthDays}
-use Rattle.calendar.proofs.Tests.{allBelow, each-below}
-use Rattle.calendar.proofs.Sums.{sum-grows}
 
 -- what is tested of each month
 abbrev beforeTest : Bool → ℕ → Bool

@@ -4,12 +4,12 @@ use mathlib.Core.Bool.{true, and-eq-true-iff}
 use mathlib.Core.Logic.{⊎-elim}
 use Prim.Native.Nat.{ℕ, _≤_}
 use native.Mathlib.Omega.{arith}
-use Rattle.calendar.specs.Sum.{sumBelow}
-use Rattle.calendar.specs.Range.{within}
+use Rattle.numbers.specs.Sum.{sumBelow}
+use Rattle.numbers.specs.Range.{within}
+use Rattle.numbers.proofs.Tests.{or-cases, within-to}
 use Rattle.calendar.specs.Gregorian.{leapYear, monthDays, multiplesBelow, daysBeforeYear, dayOfYear, dayNumber}
 use Rattle.calendar.specs.Week.{monday, tuesday, weekday, firstMonday, thirdMonday}
 use Rattle.calendar.specs.Peak.{summerPeak, winterPeak, peakPeriod}
-use Rattle.calendar.proofs.Tests.{or-cases, within-to}
 
 pub known-weekday : weekday 2011 7 5 ≡ tuesday
 unfolding sumBelow within leapYear monthDays multiplesBelow daysBeforeYear dayOfYear dayNumber weekday

@@ -7,9 +7,9 @@ use native.Mathlib.Numerals.{add-one}
 use native.Mathlib.Omega.{arith}
 use lib.Dec.{eqb}
 use borrow.Author.Tests.{eqb-true, eqb-false}
-use Rattle.calendar.specs.Sum.{sumBelow}
+use Rattle.numbers.specs.Sum.{sumBelow}
+use Rattle.numbers.proofs.Sums.{sum-grows}
 use Rattle.calendar.specs.Gregorian.{leapYear, multiplesBelow, daysBeforeYear}
-use Rattle.calendar.proofs.Sums.{sum-grows}
 use Rattle.calendar.proofs.Months.{yearDays}
 
 quotient : (n m k : ℕ) → k * n ≤ m → m < k * n + n → m / n ≡ k

@@ -1,7 +1,7 @@
 -- The delivery year: year y runs from 1 June y to 31 May y + 1.
 -- 01, Records.
-use Prim.Native.Nat.{ℕ, _+_, _-_}
 use mathlib.Core.Bool.{Bool, cond, _&&_}
+use Prim.Native.Nat.{ℕ, _+_, _-_}
 use lib.Dec.{leb}
 use Rattle.calendar.specs.Gregorian.{leapYear, isDate, dayNumber}
 use Rattle.calendar.specs.Peak.{peakHour}

@@ -4,11 +4,6 @@ use mathlib.Core.List.{List, [], _∷_}
 use Prim.Native.Nat.{ℕ}
 use Rattle.calendar.specs.Peak.{peakAnswer}
 
--- what `given` says holds of every row of a list
-abbrev pub EachGiven : {Row : Type 0} → (Row → Type 0) → List Row → Type 0
-EachGiven given [] = Unit {0}
-EachGiven given (r ∷ rs) = given r × EachGiven given rs
-
 -- one answer to the peak question, as the paper states it
 pub record PeakRow : Type 0 where
   pub year : ℕ

@@ -1,10 +1,10 @@
 -- The Gregorian calendar: leap years, the days of a month, which dates there are, and the number of each day.
 -- 01, Records ("a Gregorian leap year") and Places of refusal, row 6 ("a date not in the calendar").
-use Prim.Native.Nat.{ℕ, _+_, _-_, _*_, _/_, _%_}
 use mathlib.Core.Bool.{Bool, not, cond, _&&_, _||_}
+use Prim.Native.Nat.{ℕ, _+_, _-_, _*_, _/_, _%_}
 use lib.Dec.{ltb, eqb}
-use Rattle.calendar.specs.Range.{within}
-use Rattle.calendar.specs.Sum.{sumBelow}
+use Rattle.numbers.specs.Range.{within}
+use Rattle.numbers.specs.Sum.{sumBelow}
 
 -- every fourth year is leap, but of the full centuries only every fourth
 unfoldable pub leapYear : ℕ → Bool

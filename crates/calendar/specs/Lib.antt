@@ -1,5 +1,3 @@
-pub mod Range
-pub mod Sum
 pub mod Gregorian
 pub mod Week
 pub mod Peak

@@ -1,9 +1,9 @@
 -- Peak hours, and the peak question.
 -- 01, Hours; 002 (b), where they are called Peak-Hour Periods.
-use Prim.Native.Nat.{ℕ}
 use mathlib.Core.Bool.{Bool, not, cond, _&&_, _||_}
+use Prim.Native.Nat.{ℕ}
 use lib.Dec.{ltb}
-use Rattle.calendar.specs.Range.{within}
+use Rattle.numbers.specs.Range.{within}
 use Rattle.calendar.specs.Gregorian.{isDate}
 use Rattle.calendar.specs.Week.{saturday, weekday, isHoliday}
 

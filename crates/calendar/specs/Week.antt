@@ -1,7 +1,7 @@
 -- Days of the week, and the holidays.
 -- 01, Hours: "Holidays: 1 January, third Monday of January, third Monday of February, 4 July, each on its date".
-use Prim.Native.Nat.{ℕ, _+_, _-_, _%_}
 use mathlib.Core.Bool.{Bool, _&&_, _||_}
+use Prim.Native.Nat.{ℕ, _+_, _-_, _%_}
 use lib.Dec.{eqb}
 use Rattle.calendar.specs.Gregorian.{dayNumber}
 

@@ -1,10 +1,10 @@
 // The Gregorian calendar. Years are at most 2^32 and days below 2^32 where a sum must fit 64 bits.
-use crate::range::within;
+use numbers::range::within;
 ghost use mathlib.Core.Path.{_≡_};
 ghost use mathlib.Core.Bool.{false, cond, _&&_};
 ghost use Prim.Native.Nat.{_≤_, _<_, _^_};
 ghost use lib.Dec.{ltb};
-ghost use Rattle.calendar.specs.Sum.{sumBelow};
+ghost use Rattle.numbers.specs.Sum.{sumBelow};
 ghost use Rattle.calendar.specs.Gregorian.{leapYear, monthDays, daysOfMonth, isDate, daysBeforeYear, daysBeforeMonth, dayOfYear, dayNumber};
 
 pub(crate) fn leap_year(year: u64) -> bool

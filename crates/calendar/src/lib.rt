@@ -5,5 +5,4 @@ mod gregorian;
 pub mod laws;
 mod peak;
 pub mod question;
-pub mod range;
 mod week;

@@ -1,7 +1,7 @@
 // Peak hours.
-use crate::range::within;
 use crate::week::is_holiday;
 use crate::week::weekday;
+use numbers::range::within;
 ghost use mathlib.Core.Path.{_≡_};
 ghost use Prim.Native.Nat.{_≤_, _<_, _^_};
 ghost use Rattle.calendar.specs.Peak.{summerPeak, winterPeak, peakPeriod, peakDay, peakHour};

@@ -1,7 +1,7 @@
 // The peak question, for the controllers' C firmware (include/peak_hour.h).
 use crate::gregorian::is_date;
 use crate::peak::is_peak;
-use crate::range::within;
+use numbers::range::within;
 ghost use mathlib.Core.Path.{_≡_};
 ghost use Rattle.calendar.specs.Peak.{isAnswered, peakAnswer};
 

@@ -1,3 +1,1 @@
-pub mod Texts
-pub mod Passing
 pub mod Carrying

@@ -1,21 +1,21 @@
 // The ledger program: records from standard input are entered into a book, and the answers go to standard output.
-mod pass;
-mod text;
-
 use book::Book;
 use libc::EINTR;
 use libc::STDERR_FILENO;
 use libc::STDIN_FILENO;
 use libc::STDOUT_FILENO;
-use pass::Stop;
-use pass::Tally;
-use pass::finish;
-use pass::take_records;
-use text::put_end;
+use report::pass::Stop;
+use report::pass::Tally;
+use report::pass::close;
+use report::pass::finish;
+use report::pass::printed;
+use report::pass::take_records;
 ghost use mathlib.Core.Path.{_≡_};
-ghost use Prim.Native.Nat.{_-_, _≤_};
+ghost use Prim.Native.Nat.{_+_, _-_, _^_, _≤_, _<_};
 ghost use lib.ListN.{length, take, drop};
-ghost use Rattle.ledger.specs.Passes.{emptied, Ready, Running, room};
+ghost use Rattle.report.specs.Passes.{Ready, room, stateOf, ended, closed};
+ghost use Rattle.report.specs.Printed.{pairMost};
+ghost use Rattle.ledger.specs.Turns.{Running};
 
 // Where the run stands after a turn: `end` bytes of the input buffer are still to be tried, and `left` more may be read,
 // so that the counts fit 64 bits.
@@ -40,25 +40,28 @@ fn carry(buf: &mut [u8], from: usize, to: usize) -> usize
     count
 }
 
-// The run with all of its text printed.
-fn printed(t: Tally) -> Tally
-    ensures { λ r. ⌜ r ≡ emptied t ⌝ }
-{
-    let book = t.book;
-    Tally {
-        book,
-        tried: t.tried,
-        accepted: t.accepted,
-        used: 0,
-    }
-}
-
 fn print(text: &[u8]) -> bool {
     let is_written = io::write_all(STDOUT_FILENO, text);
     if !is_written {
         os::fail(b"ledger: standard output");
     }
     is_written
+}
+
+// The last line, after a broken record: there is room for it.
+fn last_line(t: Tally, out: &mut [u8]) -> usize
+    requires { ⌜ t .used + pairMost ≤ length (now out) ⌝ }
+    ensures { λ r. ⌜ (take r (now (out .exit)) ≡ closed (stateOf t (now (out .entry)))) × (r ≤ length (now (out .exit))) ⌝ }
+{
+    close(t, out)
+}
+
+// The end of the input: there is room for an answer and the last line.
+fn last_lines(t: Tally, rest: &[u8], out: &mut [u8]) -> usize
+    requires { ⌜ Ready room t (now out) × (t .tried + 1 < 2 ^ 64) ⌝ }
+    ensures { λ r. ⌜ (take r (now (out .exit)) ≡ closed (ended (stateOf t (now (out .entry))) (now (rest .entry)))) × (r ≤ length (now (out .exit))) ⌝ }
+{
+    finish(t, rest, out)
 }
 
 // Reads once, after the bytes that were carried over: a whole record has at most 35 bytes, so that there is room.
@@ -85,7 +88,7 @@ fn read_more(t: Tally, buf: &mut [u8], end: usize, left: u64, out: &mut [u8]) ->
         };
     }
     if got == 0 {
-        let used = finish(t, &buf[..end], out);
+        let used = last_lines(t, &buf[..end], out);
         print(&out[..used]);
         return Turn {
             tally: printed(t),
@@ -136,7 +139,7 @@ fn take_turn(t: Tally, buf: &mut [u8], end: usize, left: u64, out: &mut [u8]) ->
             }
         }
         Stop::Broken => {
-            let used = put_end(out, tally.used, tally.tried, tally.accepted);
+            let used = last_line(tally, out);
             print(&out[..used]);
             Turn {
                 tally: printed(tally),

@@ -1,5 +1,5 @@
 -- What every list of accepted records satisfies, by the rows of refusal alone.
-use mathlib.Core.Path.{_≡_, refl, sym, _∙_}
+use mathlib.Core.Path.{_≡_, refl, sym}
 use mathlib.Core.Bool.{Bool, true, false, cond, and-true}
 use mathlib.Core.Logic.{_⊎_, inl, inr}
 use mathlib.Core.List.{List, [], _∷_}
@@ -7,27 +7,27 @@ use Prim.Native.Nat.{ℕ, _+_, _-_, _<_}
 use native.Mathlib.Omega.{arith}
 use lib.IntN.{ℤ, pos}
 use lib.Dec.{eqb}
-use borrow.Author.Tests.{ltb-true, leb-false, eqb-true, eqb-false, eq-eqb, ne-eqb, not-false}
-use Rattle.calendar.specs.Range.{within}
-use Rattle.calendar.proofs.Tests.{within-from}
-use Rattle.settlement.specs.Lists.{element}
-use Rattle.settlement.specs.Signed.{sumBelowℤ}
-use Rattle.settlement.proofs.Balance.{dues-balance}
+use borrow.Author.Tests.{ltb-true, leb-false, eqb-true, eqb-false, not-false}
+use Rattle.numbers.specs.Range.{within}
+use Rattle.numbers.specs.Lists.{element}
+use Rattle.numbers.specs.Signed.{sumBelowℤ}
+use Rattle.numbers.proofs.Tests.{within-from}
+use Rattle.money.proofs.Balance.{dues-balance}
 use Rattle.records.specs.declared.format.UnitRecord.{UnitRecord}
 use Rattle.records.specs.declared.format.CommitmentRecord.{CommitmentRecord}
 use Rattle.records.specs.declared.format.HourRecord.{HourRecord}
 use Rattle.records.specs.declared.format.Record.{Record}
 use Rattle.records.specs.Format.{areaCount, unitCount, partyCount, yearFormat, unitFormat, commitmentFormat, hourFormat, postFormat}
 use Rattle.records.specs.Kinds.{numbersOf, isOf, unitFrom, commitmentFrom, hourFrom}
-use Rattle.records.specs.Hours.{hourIndex}
-use Rattle.records.specs.Dues.{dueIn, unplacedIn}
-use Rattle.records.specs.Rules.{index, areaIndex, unitIndex, asked}
-use Rattle.records.proofs.Named.{index-in-range, named-index}
 use Rattle.records.proofs.OneKind.{is-made}
-use Rattle.records.proofs.AcceptedRows.{Accepted}
+use Rattle.rules.specs.Hours.{hourIndex}
+use Rattle.rules.specs.Dues.{dueIn, undistributedIn}
+use Rattle.rules.specs.Rules.{areaIndex, unitIndex, asked}
+use Rattle.rules.proofs.Named.{named-index}
+use Rattle.rules.proofs.AcceptedRows.{Accepted}
+use Rattle.rules.proofs.ByKind.{chosen, by-key, by-key-each, as-made, fit}
 use Rattle.promise.specs.Reckoning.{yearOf, unitOf, latestCommitment, acceptedHours, lastIndex, factsOfList, reckonedDue, reckonedPaid}
 use Rattle.promise.proofs.Falling.{Falling}
-use Rattle.records.proofs.ByKind.{chosen, by-key, by-key-each, as-made, fit}
 
 -- a commitment that is entered has one of the sixteen parties
 abbrev pub PartyKnown : CommitmentRecord → Type 0
@@ -115,10 +115,10 @@ module _ (acc : List Record) (k : Kept acc) (r : Record) (ok : Accepted (asked (
 
   -- row 11, passed by a Post: the dues add up to 0
   dues-balanced : isOf postFormat r ≡ true → (a : ℕ) → eqb (element (numbersOf r) 0) (a + 1) ≡ true → Balanced (reckonedDue acc a)
-  unfolding reckonedDue dueIn unplacedIn
+  unfolding reckonedDue dueIn undistributedIn
   dues-balanced q a e =
       let named : areaIndex (element (numbersOf r) 0) ≡ a = named-index areaCount _ a (fit ok postFormat tt q .0) e in
-      dues-balance _ _ _ _ (rw named at (as-made (factsOfList acc) r ok postFormat tt q .placed))
+      dues-balance _ _ _ _ (rw named at (as-made (factsOfList acc) r ok postFormat tt q .distributed))
 
   lines-balanced : (a : ℕ) → Balanced (reckonedPaid (r ∷ acc) a)
   unfolding reckonedPaid

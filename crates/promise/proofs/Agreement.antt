@@ -7,35 +7,32 @@ use native.Mathlib.Omega.{arith}
 use lib.IntN.{pos}
 use lib.Dec.{eqb, ltb}
 use lib.ListN.{length, getD, set}
-use lib.Seq.{getD-set-same, getD-set-other}
 use borrow.Author.Tests.{ltb-true, ltb-false, eqb-true, eqb-false, eq-eqb, ne-eqb}
-use Rattle.calendar.specs.Range.{within}
-use Rattle.calendar.proofs.Tests.{within-from, within-to}
-use Rattle.settlement.specs.declared.Cents.{Cents}
-use Rattle.settlement.specs.Lists.{listBelow}
-use Rattle.settlement.specs.Quantities.{cents}
-use Rattle.settlement.proofs.Lists.{element-below}
+use Rattle.numbers.specs.Range.{within}
+use Rattle.numbers.specs.Lists.{listBelow}
+use Rattle.numbers.proofs.Tests.{within-from, within-to}
+use Rattle.numbers.proofs.Lists.{element-below, stored-at, each-made}
+use Rattle.money.specs.declared.Cents.{Cents}
+use Rattle.money.specs.Quantities.{cents}
 use Rattle.records.specs.declared.format.UnitRecord.{UnitRecord}
 use Rattle.records.specs.declared.format.HourRecord.{HourRecord}
 use Rattle.records.specs.declared.format.LoadRecord.{LoadRecord}
 use Rattle.records.specs.declared.format.Record.{Record}
-use Rattle.records.specs.Format.{areaCount, unitCount, commitmentCount, partyCount}
-use Rattle.records.specs.Format.{yearFormat, areaFormat, unitFormat, commitmentFormat, hourFormat, loadFormat, postFormat}
+use Rattle.records.specs.Format.{areaCount, unitCount, commitmentCount, partyCount, yearFormat, areaFormat, unitFormat, commitmentFormat, hourFormat}
+use Rattle.records.specs.Format.{loadFormat, postFormat}
 use Rattle.records.specs.Kinds.{isOf}
-use Rattle.records.specs.Hours.{counted}
-use Rattle.records.specs.Facts.{noArea, noCommitment, isEntered}
-use Rattle.records.specs.Rules.{index, areaIndex, unitIndex, partyIndex, asked}
-use Rattle.records.proofs.Named.{index-below, named-by, named-index}
-use Rattle.records.proofs.AcceptedRows.{Accepted}
+use Rattle.rules.specs.Hours.{counted}
+use Rattle.rules.specs.Facts.{noArea, noCommitment, isEntered}
+use Rattle.rules.specs.Rules.{index, areaIndex, unitIndex, partyIndex, asked}
+use Rattle.rules.proofs.Named.{index-below, named-by, named-index}
+use Rattle.rules.proofs.AcceptedRows.{Accepted}
+use Rattle.rules.proofs.ByKind.{chosen, paired, as-made, fit, by-kind}
 use Rattle.book.specs.declared.Unit as unit
 use Rattle.book.specs.declared.Book.{Book}
 use Rattle.book.specs.Books.{noEntry, pairCount, areaParty, obligationIn, factsOfBook, postedIn, emptyBook, Sound}
-use Rattle.book.proofs.Loops.{stored-at}
-use Rattle.book.proofs.Soundness.{each-made}
 use Rattle.book.specs.Entered.{newUnit, withHour, postedAfter, unitsAfter, after}
 use Rattle.promise.specs.Reckoning.{yearOf, latestArea, unitOf, latestCommitment, latestObligation, acceptedHours, sumOver, lastIndex, factsOfList}
 use Rattle.promise.specs.Reckoning.{countsOf, reckonedDue, reckonedPaid}
-use Rattle.records.proofs.ByKind.{chosen, paired, as-made, fit, by-kind}
 use Rattle.promise.proofs.AcceptedLists.{Kept, before-year}
 
 -- a unit with these hours, and the unit at index k as the list has it

@@ -1,27 +1,34 @@
 -- The definitions give figures a to j.
+use mathlib.Core.List.{map, List, [], _∷_, _++_}
 use mathlib.Core.Path.{refl}
-use mathlib.Core.List.{List, [], _∷_, _++_, map}
 use Prim.Native.Nat.{ℕ}
-use Rattle.calendar.specs.Range.{within}
+use Rattle.numbers.specs.Range.{within}
+use Rattle.numbers.specs.Rows.{EachGiven}
+use Rattle.numbers.specs.Lists.{listBelow}
+use Rattle.numbers.specs.Figures.{splitRows}
+use Rattle.numbers.proofs.Rows.{each-renamed}
+use Rattle.numbers.proofs.Figures.{split-figures}
 use Rattle.calendar.specs.Gregorian.{leapYear}
 use Rattle.calendar.specs.DeliveryYear.{deliveryDays}
-use Rattle.calendar.specs.Figures.{EachGiven}
-use Rattle.settlement.specs.Lists.{listBelow}
-use Rattle.settlement.specs.Figures as settlement
-use Rattle.settlement.proofs.AllFigures as settlement-proofs
+use Rattle.calendar.specs.Figures.{peakRows}
+use Rattle.calendar.proofs.Figures.{peak-figures}
+use Rattle.capacity.specs.Figures.{capacityRows}
+use Rattle.capacity.proofs.Figures.{capacity-figures}
+use Rattle.money.specs.Figures.{creditRows}
+use Rattle.money.proofs.Figures.{credit-figures}
 use Rattle.records.specs.Format.{numberAt}
 use Rattle.records.specs.declared.format.Record.{Record}
 use Rattle.records.specs.declared.format.Record.the-variants.{Year, Area, Unit, Commitment, Load, Post}
 use Rattle.records.specs.Decoded.{isBroken, ofLength, framed, decoded}
-use Rattle.records.specs.Refusal.{daysFit, numbersFit, inRange, refusalOf}
-use Rattle.records.specs.Rules.{index}
+use Rattle.rules.specs.Refusal.{daysFit, numbersFit, inRange, refusalOf}
+use Rattle.rules.specs.Rules.{index}
 use Rattle.promise.specs.Reckoning.{yearOf, latestArea, unitOf, latestCommitment, latestObligation, acceptedHours, sumOver, lastIndex, factsOfList}
 use Rattle.promise.specs.Reckoning.{Answered}
-use Rattle.promise.specs.Figures.{year, area, unit, commitment, load, post, settled, figureGiven}
-use Rattle.promise.specs.Figures.{beforeLoads, beforeLoadsAnswers, reckonedRows, figures}
+use Rattle.promise.specs.Figures.{Figure, year, area, unit, commitment, load, post, peak, capacity, split, credit, figureGiven, beforeLoads}
+use Rattle.promise.specs.Figures.{beforeLoadsAnswers, reckonedRows, figures}
 use Rattle.promise.proofs.Runs.{Fed, none-next, accepted-next, refused-next}
-use Rattle.promise.proofs.Example.{area₁, unit₁, unit₂, commitment₁, commitment₂, load₅, load₇, unloaded, loaded}
-use Rattle.promise.proofs.Example.{first-number, second-number, unloaded-number, first-lines, second-lines}
+use Rattle.promise.proofs.Example.{area₁, unit₁, unit₂, commitment₁, commitment₂, load₅, load₇, unloaded, loaded, first-number, second-number}
+use Rattle.promise.proofs.Example.{unloaded-number, first-lines, second-lines}
 
 -- the lists as the strings are accepted
 abbrev after₂ : List Record
@@ -62,8 +69,19 @@ reckoned-figures = (
   ),
 )
 
+-- the rows after those of each crate
+abbrev after-split : List Figure
+after-split = map credit creditRows ++ reckonedRows
+
+abbrev after-capacity : List Figure
+after-capacity = map split splitRows ++ after-split
+
+abbrev after-peak : List Figure
+after-peak = map capacity capacityRows ++ after-capacity
+
 pub figures-given : EachGiven figureGiven figures
 figures-given =
-    settlement-proofs.each-joined figureGiven (map settled settlement.figures) reckonedRows
-    (settlement-proofs.each-renamed figureGiven settled settlement.figures settlement-proofs.figures-given)
-    reckoned-figures
+    each-renamed figureGiven peak peakRows after-peak peak-figures
+    (each-renamed figureGiven capacity capacityRows after-capacity capacity-figures
+    (each-renamed figureGiven split splitRows after-split split-figures
+    (each-renamed figureGiven credit creditRows reckonedRows credit-figures reckoned-figures)))

@@ -8,21 +8,23 @@ use lib.IntN.{ℤ, pos, negℤ, _+ℤ_, +ℤ-idr}
 use lib.Dec.{eqb}
 use lib.ListN.{getD}
 use borrow.Author.Tests.{ne-eqb}
-use Rattle.calendar.specs.Sum.{sumBelow}
-use Rattle.calendar.specs.Range.{within}
+use Rattle.numbers.specs.Sum.{sumBelow}
+use Rattle.numbers.specs.Range.{within}
+use Rattle.numbers.specs.Lists.{listBelow, element}
+use Rattle.numbers.specs.Signed.{above, below, sumBelowℤ}
+use Rattle.numbers.specs.Split.{firstShares, split, withSign, splitSigned}
+use Rattle.numbers.proofs.Lists.{element-below, list-same}
 use Rattle.calendar.specs.Gregorian.{leapYear}
 use Rattle.calendar.specs.DeliveryYear.{deliveryDays}
-use Rattle.settlement.specs.Lists.{listBelow, element}
-use Rattle.settlement.specs.Signed.{above, below, sumBelowℤ}
-use Rattle.settlement.specs.declared.capacity.HourCounts.{HourCounts}
-use Rattle.settlement.specs.Figures.{rated}
-use Rattle.settlement.specs.Capacity.{wattDays, partOf, wattDaysOf, committed, unforced, available, quarters, limit, limited}
-use Rattle.settlement.specs.Capacity.{unitShortfall, unitLimit, limitedShortfall}
-use Rattle.settlement.specs.Split.{firstShares, split, withSign, splitSigned}
-use Rattle.settlement.specs.Shares.{unitShare, net}
-use Rattle.settlement.specs.Money.{priced, charge, ceiling, charges, ceilings, credit, left, loadShare, due, isUnplaced, line}
-use Rattle.settlement.proofs.Lists.{element-below, list-same}
-use Rattle.settlement.proofs.Sixteen.{shares-same, due-same, unplaced-same}
+use Rattle.capacity.specs.declared.rating.HourCounts.{HourCounts}
+use Rattle.capacity.specs.Figures.{rated}
+use Rattle.capacity.specs.Shortfall.{wattDays, partOf, wattDaysOf, committed, unforced, available, quarters, limit, limited, unitShortfall, unitLimit}
+use Rattle.capacity.specs.Shortfall.{limitedShortfall}
+use Rattle.capacity.specs.Shares.{unitShare, net}
+use Rattle.capacity.proofs.Nets.{shares-same}
+use Rattle.money.specs.AreaMoney.{priced, charge, ceiling, charges, ceilings, credit, left, loadShare, due, isUndistributed}
+use Rattle.money.specs.Lines.{line}
+use Rattle.money.proofs.Sixteen.{due-same, undistributed-same}
 use Rattle.records.specs.declared.format.AreaRecord.{AreaRecord}
 use Rattle.records.specs.declared.format.UnitRecord.{UnitRecord}
 use Rattle.records.specs.declared.format.CommitmentRecord.{CommitmentRecord}
@@ -30,10 +32,10 @@ use Rattle.records.specs.declared.format.LoadRecord.{LoadRecord}
 use Rattle.records.specs.declared.format.Record.{Record}
 use Rattle.records.specs.declared.format.Record.the-variants.{Year, Area, Unit, Commitment, Load, Post}
 use Rattle.records.specs.Format.{partyCount}
-use Rattle.records.specs.Facts.{Facts, noArea, noUnit, noCommitment, noHours}
-use Rattle.records.specs.Refusal.{numbersFit, inRange, refusalOf}
-use Rattle.records.specs.Rules.{index, asked}
-use Rattle.records.specs.Dues.{wattDaysFor, partFor, shareIn, netIn, dueIn, unplacedIn}
+use Rattle.rules.specs.Facts.{Facts, noArea, noUnit, noCommitment, noHours}
+use Rattle.rules.specs.Refusal.{numbersFit, inRange, refusalOf}
+use Rattle.rules.specs.Rules.{index, asked}
+use Rattle.rules.specs.Dues.{wattDaysFor, partFor, shareIn, netIn, dueIn, undistributedIn}
 use Rattle.promise.specs.Reckoning.{yearOf, latestArea, unitOf, latestCommitment, latestObligation, acceptedHours, sumOver, lastIndex, factsOfList}
 use Rattle.promise.specs.Reckoning.{reckonedDue, reckonedPaid, reckonedLine}
 use Rattle.promise.specs.Figures.{noLines, ofThree, firstLines}
@@ -147,17 +149,17 @@ module _ (price : ℕ) (o : ℕ → ℕ → ℕ) (hours : ℕ → HourCounts) (l
         ∙ by-list partyCount _ dues (pos 0) e p h
 
     -- row 11, and with it the number of Post 1
-    pub placed-is : {t : Bool} → isUnplaced (amountOf nets) price 365 (element obligations) ≡ t → unplacedIn facts 0 ≡ t
-    unfolding unplacedIn deliveryDays leapYear
-    placed-is e = unplaced-same (netIn facts 0) (amountOf nets) price 365 (o 0) (element obligations) nets-are (by-list partyCount _ obligations 0 l) ∙ e
+    pub distributed-is : {t : Bool} → isUndistributed (amountOf nets) price 365 (element obligations) ≡ t → undistributedIn facts 0 ≡ t
+    unfolding undistributedIn deliveryDays leapYear
+    distributed-is e = undistributed-same (netIn facts 0) (amountOf nets) price 365 (o 0) (element obligations) nets-are (by-list partyCount _ obligations 0 l) ∙ e
 
-    pub post-accepted : isUnplaced (amountOf nets) price 365 (element obligations) ≡ false → refusalOf (asked facts (Post 1)) (Post 1) ≡ 0
+    pub post-accepted : isUndistributed (amountOf nets) price 365 (element obligations) ≡ false → refusalOf (asked facts (Post 1)) (Post 1) ≡ 0
     unfolding within numbersFit inRange refusalOf index
-    post-accepted e = rw (placed-is e)
+    post-accepted e = rw (distributed-is e)
 
-    pub post-refused : isUnplaced (amountOf nets) price 365 (element obligations) ≡ true → refusalOf (asked facts (Post 1)) (Post 1) ≡ 11
+    pub post-refused : isUndistributed (amountOf nets) price 365 (element obligations) ≡ true → refusalOf (asked facts (Post 1)) (Post 1) ≡ 11
     unfolding within numbersFit inRange refusalOf index
-    post-refused e = rw (placed-is e)
+    post-refused e = rw (distributed-is e)
 
 -- the lines of a Post, from its dues and what was paid before
 pub lines-are : (acc : List Record) (dues : List ℤ) (paid : ℕ → ℤ) → ((p : ℕ) → p < partyCount → reckonedDue acc 0 p ≡ amountOf dues p)
@@ -208,15 +210,15 @@ dues-listed : listBelow partyCount (due (amountOf nets) 9000 365 (element obliga
 unfolding listBelow sumBelow above below priced charge ceiling charges ceilings credit left loadShare due split firstShares
 dues-listed = refl
 
-placed : isUnplaced (amountOf nets) 9000 365 (element obligations) ≡ false
-unfolding sumBelow above below priced charge ceiling charges ceilings left isUnplaced
-placed = refl
+distributed : isUndistributed (amountOf nets) 9000 365 (element obligations) ≡ false
+unfolding sumBelow above below priced charge ceiling charges ceilings left isUndistributed
+distributed = refl
 
-not-placed : isUnplaced (amountOf nets) 9000 365 (element noObligations) ≡ true
-unfolding sumBelow above below priced charge ceiling charges ceilings left isUnplaced
-not-placed = refl
+not-distributed : isUndistributed (amountOf nets) 9000 365 (element noObligations) ≡ true
+unfolding sumBelow above below priced charge ceiling charges ceilings left isUndistributed
+not-distributed = refl
 
--- the dues with both Loads; with them no money is left over unplaced, without them some is
+-- the dues with both Loads; with them no money is left over undistributed, without them some is
 dues-loaded : (p : ℕ) → p < partyCount → reckonedDue loaded 0 p ≡ amountOf firstLines p
 unfolding reckonedDue
 dues-loaded p h =
@@ -224,7 +226,7 @@ dues-loaded p h =
     ∙ dues-are 9000 (latestObligation loaded) none no-last (nets-listed (latestObligation loaded)) obligations-listed dues-listed p h
 
 post-loaded : refusalOf (asked (example 9000 (latestObligation loaded) none no-last) (Post 1)) (Post 1) ≡ 0
-post-loaded = post-accepted 9000 (latestObligation loaded) none no-last (nets-listed (latestObligation loaded)) obligations-listed placed
+post-loaded = post-accepted 9000 (latestObligation loaded) none no-last (nets-listed (latestObligation loaded)) obligations-listed distributed
 
 pub first-number : refusalOf (asked (factsOfList loaded) (Post 1)) (Post 1) ≡ 0
 first-number = rw facts-loaded post-loaded
@@ -233,7 +235,7 @@ pub second-number : refusalOf (asked (factsOfList (Post 1 ∷ loaded)) (Post 1))
 second-number = rw (post-keeps 1 loaded, facts-loaded) post-loaded
 
 pub unloaded-number : refusalOf (asked (factsOfList unloaded) (Post 1)) (Post 1) ≡ 11
-unloaded-number = rw facts-unloaded (post-refused 9000 (λ a p. 0) none no-last (nets-listed (λ a p. 0)) none-listed not-placed)
+unloaded-number = rw facts-unloaded (post-refused 9000 (λ a p. 0) none no-last (nets-listed (λ a p. 0)) none-listed not-distributed)
 
 -- its lines, the first time and the second
 pub first-lines : listBelow partyCount (reckonedLine loaded 0) ≡ firstLines

@@ -5,7 +5,7 @@ use mathlib.Core.List.{List, [], _∷_, List·Memᴰ, List·Memᴰ·head, List·
 use Prim.Native.Nat.{ℕ, _≤_, _<_}
 use native.Mathlib.Omega.{arith}
 use Rattle.records.specs.declared.format.HourRecord.{HourRecord}
-use Rattle.records.specs.Hours.{hourIndex}
+use Rattle.rules.specs.Hours.{hourIndex}
 use Rattle.promise.specs.Reckoning.{lastIndex}
 
 module _ (y : ℕ) where

@@ -3,7 +3,7 @@ use mathlib.Core.Path.{refl, sym, _∙_}
 use Prim.Native.Nat.{_+_}
 use lib.IntN.{_-ℤ_, +ℤ-comm, -ℤ-+ℤ-cancel}
 use borrow.Author.Tests.{eq-eqb}
-use Rattle.settlement.specs.Money.{line}
+use Rattle.money.specs.Lines.{line}
 use Rattle.promise.specs.Reckoning.{reckonedDue, reckonedPaid, reckonedLine}
 use Rattle.promise.specs.Laws.{LinesAddUp}
 

@@ -6,11 +6,11 @@ use Prim.Native.Nat.{ℕ}
 use lib.Dec.{eqb}
 use borrow.Author.Tests.{eqb-true}
 use Rattle.records.specs.Decoded.{decoded}
-use Rattle.records.specs.Rules.{asked, refusal}
-use Rattle.records.specs.Refusal.{refusalOf}
-use Rattle.records.specs.Facts.{Facts}
 use Rattle.records.specs.declared.format.Record.{Record}
-use Rattle.records.proofs.AcceptedRows.{Accepted, accepted}
+use Rattle.rules.specs.Rules.{asked, refusal}
+use Rattle.rules.specs.Refusal.{refusalOf}
+use Rattle.rules.specs.Facts.{Facts}
+use Rattle.rules.proofs.AcceptedRows.{Accepted, accepted}
 use Rattle.book.specs.declared.Book.{Book}
 use Rattle.book.specs.Books.{factsOfBook, emptyBook, Sound}
 use Rattle.book.specs.Entered.{after, noLines, linesOf, answer, entered, bookAfter}

@@ -2,50 +2,37 @@
 use mathlib.Core.Path.{_≡_, refl, sym, ap, _∙_}
 use mathlib.Core.Bool.{Bool, true, false, cond, true≢false, _&&_}
 use mathlib.Core.List.{List, _∷_}
-use Prim.Native.Nat.{ℕ, zero, suc, _+_, _-_, _<_}
+use Prim.Native.Nat.{ℕ, _+_, _-_, _<_}
 use native.Mathlib.Omega.{arith}
-use lib.IntN.{ℤ, pos, _+ℤ_, +ℤ-idl, +ℤ-idr, +ℤ-assoc, +ℤ-comm}
+use lib.IntN.{ℤ, pos, _+ℤ_, +ℤ-idl, +ℤ-idr}
 use lib.Dec.{eqb}
 use borrow.Author.Tests.{eqb-true, eq-eqb}
-use Rattle.calendar.specs.Range.{within}
-use Rattle.calendar.proofs.Tests.{within-from, within-to}
-use Rattle.settlement.specs.Lists.{element}
-use Rattle.settlement.specs.Signed.{sumBelowℤ}
-use Rattle.settlement.specs.Quantities.{cents}
-use Rattle.settlement.specs.declared.Cents.{Cents}
-use Rattle.settlement.specs.Money.{centsOf}
-use Rattle.settlement.proofs.Tests.{both-true}
-use Rattle.settlement.proofs.Lists.{element-below, list-same}
-use Rattle.settlement.proofs.SignedSums.{sum-sameℤ}
+use Rattle.numbers.specs.Range.{within}
+use Rattle.numbers.specs.Lists.{element}
+use Rattle.numbers.specs.Signed.{sumBelowℤ}
+use Rattle.numbers.proofs.Tests.{within-from, within-to, both-true}
+use Rattle.numbers.proofs.Lists.{element-below, list-same}
+use Rattle.numbers.proofs.SignedSums.{sum-sameℤ, sum-addℤ}
+use Rattle.money.specs.Quantities.{cents, centsOf}
+use Rattle.money.specs.declared.Cents.{Cents}
 use Rattle.records.specs.declared.format.Record.{Record}
 use Rattle.records.specs.declared.format.Record.the-variants.{Post}
 use Rattle.records.specs.Format.{areaCount, partyCount, postFormat}
 use Rattle.records.specs.Decoded.{decoded}
 use Rattle.records.specs.Kinds.{numbersOf, isOf, ofPost}
-use Rattle.records.specs.Rules.{areaIndex}
-use Rattle.records.proofs.Named.{index-in-range}
+use Rattle.rules.specs.Rules.{areaIndex}
+use Rattle.rules.proofs.Named.{index-in-range}
+use Rattle.rules.proofs.ByKind.{paired, by-key, fit, by-kind}
 use Rattle.book.specs.declared.Book.{Book}
 use Rattle.book.specs.Entered.{noLines, postLines, entered}
-use Rattle.promise.specs.Reckoning.{yearOf, latestArea, unitOf, latestCommitment, latestObligation, acceptedHours, factsOfList}
-use Rattle.promise.specs.Reckoning.{numberFor, acceptedWith, reckonedDue, reckonedPaid, reckonedLine, lineFor, answerFor}
+use Rattle.promise.specs.Reckoning.{yearOf, latestArea, unitOf, latestCommitment, latestObligation, acceptedHours, factsOfList, numberFor, acceptedWith}
+use Rattle.promise.specs.Reckoning.{reckonedDue, reckonedPaid, reckonedLine, lineFor, answerFor}
 use Rattle.promise.specs.Promise.{Entry, numberOf, lineOf, isPost}
 use Rattle.promise.specs.Laws.{answered}
-use Rattle.records.proofs.ByKind.{paired, by-key, fit, by-kind}
 use Rattle.promise.proofs.Agreement.{agreed-facts}
 use Rattle.promise.proofs.LineSums.{lines-add-up}
 use Rattle.promise.proofs.Runs.{list-after, list-kept}
 use Rattle.promise.proofs.Meeting.{Meets, number-met, accepted-by, book-after, book-kept, meets-next}
-
--- a sum of sums
-sum-plusℤ : (n : ℕ) (f g : ℕ → ℤ) → sumBelowℤ n (λ k. f k +ℤ g k) ≡ sumBelowℤ n f +ℤ sumBelowℤ n g
-unfolding sumBelowℤ
-sum-plusℤ zero f g = refl
-sum-plusℤ (suc n) f g = rw (sum-plusℤ n f g) (crossed (sumBelowℤ n f) (sumBelowℤ n g) (f n) (g n))
-  where
-    crossed : (w x y z : ℤ) → (w +ℤ x) +ℤ (y +ℤ z) ≡ (w +ℤ y) +ℤ (x +ℤ z)
-    crossed w x y z =
-        +ℤ-assoc w x (y +ℤ z) ∙ ap (λ (v : ℤ). w +ℤ v) (sym (+ℤ-assoc x y z) ∙ ap (λ (v : ℤ). v +ℤ z) (+ℤ-comm x y) ∙ +ℤ-assoc y x z)
-        ∙ sym (+ℤ-assoc w y (x +ℤ z))
 
 -- the test of a Post of area a
 is-post : (a : ℕ) (r : Record) → ofPost false (λ n. eqb n (a + 1)) r ≡ true → r ≡ Post (a + 1)
@@ -137,7 +124,7 @@ module _ (b : Book) (acc : List Record) (m : Meets b acc) (s : List ℕ) where
       let grown : (p : ℕ) → p < partyCount → reckonedPaid (acceptedWith acc s) a p ≡ paid p +ℤ lineOf entry p = λ p h. rw q at (paid-more a p h) in
       sym (+ℤ-idl (sumBelowℤ partyCount (lineOf entry)))
       ∙ ap (λ (z : ℤ). z +ℤ sumBelowℤ partyCount (lineOf entry)) (sym (m .kept .balance a))
-      ∙ sym (sum-plusℤ partyCount paid (lineOf entry))
+      ∙ sym (sum-addℤ partyCount paid (lineOf entry))
       ∙ sym (sum-sameℤ partyCount (reckonedPaid (acceptedWith acc s) a) (λ p. paid p +ℤ lineOf entry p) grown)
       ∙ meets-next b acc m s .kept .balance a
 

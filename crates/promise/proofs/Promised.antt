@@ -5,7 +5,7 @@ use mathlib.Core.Logic.{_⊎_, inl, inr}
 use mathlib.Core.List.{List, [], _∷_, map, List·Memᴰ, List·Memᴰ·not-nil, List·Memᴰ·cases-cons}
 use Prim.Native.Nat.{ℕ, _<_}
 use lib.IntN.{pos, _+ℤ_, +ℤ-idl, +ℤ-idr, +ℤ-assoc}
-use Rattle.settlement.specs.Signed.{sumBelowℤ}
+use Rattle.numbers.specs.Signed.{sumBelowℤ}
 use Rattle.records.specs.declared.format.Record.{Record}
 use Rattle.records.specs.Format.{partyCount}
 use Rattle.book.specs.declared.Book.{Book}

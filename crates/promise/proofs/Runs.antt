@@ -5,14 +5,14 @@ use mathlib.Core.List.{List, [], _∷_}
 use Prim.Native.Nat.{ℕ, _-_}
 use lib.IntN.{ℤ, pos}
 use lib.Dec.{eqb}
-use Rattle.settlement.specs.Lists.{listBelow}
+use Rattle.numbers.specs.Lists.{listBelow}
 use Rattle.records.specs.declared.format.Record.{Record}
 use Rattle.records.specs.Format.{partyCount}
 use Rattle.records.specs.Decoded.{decoded}
 use Rattle.records.specs.Kinds.{ofPost}
-use Rattle.records.specs.Refusal.{refusalOf}
-use Rattle.records.specs.Facts.{Facts}
-use Rattle.records.specs.Rules.{asked, refusal}
+use Rattle.rules.specs.Refusal.{refusalOf}
+use Rattle.rules.specs.Facts.{Facts}
+use Rattle.rules.specs.Rules.{asked, refusal}
 use Rattle.promise.specs.Reckoning.{factsOfList, Answered, numberFor, acceptedWith, reckonedLine, lineFor, answersOf, acceptedOf}
 use Rattle.promise.specs.Figures.{answer, noLines}
 

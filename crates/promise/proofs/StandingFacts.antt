@@ -3,8 +3,8 @@ use mathlib.Core.Path.{_≡_, ap}
 use mathlib.Core.List.{List}
 use Prim.Native.Nat.{ℕ}
 use Rattle.records.specs.declared.format.Record.{Record}
-use Rattle.records.specs.Facts.{Facts}
-use Rattle.records.specs.Dues.{dueIn}
+use Rattle.rules.specs.Facts.{Facts}
+use Rattle.rules.specs.Dues.{dueIn}
 use Rattle.promise.specs.Reckoning.{yearOf, acceptedHours, countsOf, lastIndex, factsOfList, reckonedDue}
 use Rattle.promise.specs.Standing.{SameStanding}
 use Rattle.promise.proofs.Falling.{same-hours}

@@ -11,12 +11,12 @@ use lib.Signed.{mag}
 use lib.Dec.{leb}
 use lib.ListN.{length, getD, take, drop, set, length-drop, length-set, drop-of-length-le, length-map, List·getD-map}
 use lib.Seq.{take-all, drop-cons, set-out}
-use borrow.Author.Tests.{leb-true, leb-false}
 use mir.Syntax.{w64}
 use mir.Val.{toZ, ofZ}
 use mir.Facts.{toZ-ofZ}
-use Rattle.settlement.specs.declared.Cents.{Cents}
-use Rattle.settlement.specs.Quantities.{cents}
+use borrow.Author.Tests.{leb-true, leb-false}
+use Rattle.money.specs.declared.Cents.{Cents}
+use Rattle.money.specs.Quantities.{cents}
 use Rattle.book.specs.declared.Book.{Book}
 use Rattle.book.specs.declared.Answer.{Answer}
 use Rattle.book.specs.Books.{emptyBook, Sound}
@@ -51,8 +51,8 @@ module _ {A : Type 0} (l : List A) (from end : ℕ) {first last : ℕ} (p : firs
       let other : end - from ≡ 0 = omega arith in
       rw (one, other)
 
-  pub between-places : take (last - first) (drop first l) ≡ take (end - from) (drop from l)
-  between-places =
+  pub between-indices : take (last - first) (drop first l) ≡ take (end - from) (drop from l)
+  between-indices =
       let size : last - first ≡ min (end - from) (length l - from) = omega arith in
       rw (size, p, drop-within l from, sym (length-drop from l)) (take-within (drop from l) (end - from))
 

@@ -6,27 +6,21 @@ use mathlib.Core.List.{List, []}
 use Prim.Native.Nat.{ℕ, _+_}
 use native.Mathlib.Omega.{arith}
 use lib.Dec.{eqb}
-use borrow.Author.Tests.{eqb-true, eqb-false, eq-eqb, ne-eqb}
-use Rattle.settlement.specs.Capacity.{unitWattDays, partOf, wattDaysOf}
-use Rattle.settlement.proofs.Sums.{sum-same}
-use Rattle.settlement.proofs.Capacities as settlement
+use borrow.Author.Tests.{ne-eqb}
+use Rattle.numbers.proofs.Sums.{sum-same}
+use Rattle.numbers.proofs.Tests.{flipped}
+use Rattle.capacity.specs.Shortfall.{unitWattDays, partOf, wattDaysOf}
+use Rattle.capacity.proofs.Capacities as capacity
 use Rattle.records.specs.declared.format.Record.{Record}
 use Rattle.records.specs.Format.{commitmentCount, partyCount}
-use Rattle.records.specs.Dues.{wattDaysFor, partFor}
-use Rattle.records.specs.Rules.{partyIndex}
-use Rattle.records.proofs.Named.{index-below, named-by}
+use Rattle.rules.specs.Dues.{wattDaysFor, partFor}
+use Rattle.rules.specs.Rules.{partyIndex}
+use Rattle.rules.proofs.Named.{index-below, named-by}
 use Rattle.book.specs.Books.{emptyBook}
 use Rattle.promise.specs.Reckoning.{latestCommitment, factsOfList, acceptedOf}
 use Rattle.promise.specs.Laws.{PartsAddUp}
 use Rattle.promise.proofs.AcceptedLists.{PartyKnown, Kept}
 use Rattle.promise.proofs.Meeting.{meets-none, all-meet}
-
-flipped : (m n : ℕ) → eqb m n ≡ eqb n m
-flipped m n = go (eqb m n) refl
-  where
-    go : (t : Bool) → eqb m n ≡ t → t ≡ eqb n m
-    go true q = sym (eq-eqb n m (sym (eqb-true m n q)))
-    go false q = sym (ne-eqb n m (λ e. eqb-false m n q (sym e)))
 
 module _ (acc : List Record) (k : Kept acc) (u : ℕ) where
   -- the watt-days of each commitment, and the index of its party
@@ -56,7 +50,7 @@ module _ (acc : List Record) (k : Kept acc) (u : ℕ) where
   unfolding wattDaysOf partFor partOf factsOfList
   parts-of =
       sum-same partyCount _ (partOf commitmentCount watt-days party) (λ p h. sum-same commitmentCount _ _ (λ j i. in-part p j (k .parties j)))
-      ∙ settlement.parts-add-up commitmentCount watt-days party (λ j h. index-below partyCount (latestCommitment acc j .party) (omega arith))
+      ∙ capacity.parts-add-up commitmentCount watt-days party (λ j h. index-below partyCount (latestCommitment acc j .party) (omega arith))
 
 pub parts-add-up : PartsAddUp
 parts-add-up ss u = parts-of (acceptedOf [] ss) (all-meet emptyBook [] meets-none ss .kept) u

@@ -7,40 +7,41 @@ use native.Mathlib.Omega.{arith}
 use lib.IntN.{ℤ, pos, negℤ}
 use lib.Dec.{eqb}
 use borrow.Author.Tests.{eqb-true}
-use Rattle.calendar.specs.Sum.{sumBelow}
-use Rattle.calendar.specs.Range.{within}
+use Rattle.numbers.specs.Sum.{sumBelow}
+use Rattle.numbers.specs.Range.{within}
+use Rattle.numbers.specs.Lists.{listBelow, element}
+use Rattle.numbers.specs.Signed.{above, below}
+use Rattle.numbers.specs.Split.{firstShares, split, withSign, splitSigned}
+use Rattle.numbers.proofs.Tests.{both-true}
 use Rattle.calendar.specs.Gregorian.{leapYear, monthDays, isDate, multiplesBelow, daysBeforeYear, dayOfYear, dayNumber}
 use Rattle.calendar.specs.Week.{weekday, firstMonday, thirdMonday, isHoliday}
 use Rattle.calendar.specs.Peak.{summerPeak, winterPeak, peakPeriod, peakDay, peakHour}
 use Rattle.calendar.specs.DeliveryYear.{deliveryDays, calendarYear, isDeliveryDate, deliveryDay, isDeliveryPeak}
-use Rattle.settlement.specs.declared.capacity.HourCounts.{HourCounts}
-use Rattle.settlement.specs.Lists.{listBelow, element}
-use Rattle.settlement.specs.Signed.{above, below}
-use Rattle.settlement.specs.Capacity.{wattDaysOf, committed, unforced, peakRated, available, quarters, limit, limited}
-use Rattle.settlement.specs.Capacity.{unitShortfall, unitLimit, limitedShortfall}
-use Rattle.settlement.specs.Split.{firstShares, split, withSign, splitSigned}
-use Rattle.settlement.specs.Shares.{unitShare}
-use Rattle.settlement.specs.Money.{priced, charge, ceiling, charges, ceilings, credit, left, loadShare, due, isUnplaced, line}
-use Rattle.settlement.proofs.Tests.{both-true}
+use Rattle.capacity.specs.declared.rating.HourCounts.{HourCounts}
+use Rattle.capacity.specs.Shortfall.{wattDaysOf, committed, unforced, peakRated, available, quarters, limit, limited, unitShortfall, unitLimit}
+use Rattle.capacity.specs.Shortfall.{limitedShortfall}
+use Rattle.capacity.specs.Shares.{unitShare}
+use Rattle.money.specs.AreaMoney.{priced, charge, ceiling, charges, ceilings, credit, left, loadShare, due, isUndistributed}
+use Rattle.money.specs.Lines.{line}
 use Rattle.records.specs.declared.format.CommitmentRecord.{CommitmentRecord}
 use Rattle.records.specs.declared.format.HourRecord.{HourRecord}
 use Rattle.records.specs.declared.format.Record.{Record}
 use Rattle.records.specs.declared.format.Record.the-variants.{Year, Area, Unit, Commitment, Hour, Load, Post}
 use Rattle.records.specs.Format.{partyCount, numberAt}
 use Rattle.records.specs.Decoded.{isBroken, ofLength, framed, decoded}
-use Rattle.records.specs.Refusal.{daysFit, deratingFits, hourFits, numbersFit, inRange, refusalOf}
-use Rattle.records.specs.Hours.{hourIndex, isPeak, serviceHour, outageHour, deratedWatts}
-use Rattle.records.specs.Facts.{Facts, noArea, noUnit, noCommitment}
-use Rattle.records.specs.Rules.{index, asked}
-use Rattle.records.specs.Dues.{dueIn}
+use Rattle.rules.specs.Refusal.{daysFit, deratingFits, hourFits, numbersFit, inRange, refusalOf}
+use Rattle.rules.specs.Hours.{hourIndex, isPeak, serviceHour, outageHour, deratedWatts}
+use Rattle.rules.specs.Facts.{Facts, noArea, noUnit, noCommitment}
+use Rattle.rules.specs.Rules.{index, asked}
+use Rattle.rules.specs.Dues.{dueIn}
 use Rattle.promise.specs.Reckoning.{yearOf, latestArea, unitOf, latestCommitment, latestObligation, acceptedHours, sumOver, lastIndex, factsOfList}
 use Rattle.promise.specs.Reckoning.{countsOf, reckonedDue, reckonedPaid, reckonedLine}
 use Rattle.promise.specs.Standing.{SameStanding}
 use Rattle.promise.specs.Figures.{year, area, unit, commitment, load, post, answer, noLines, ofThree, beforeLoadsAnswers}
 use Rattle.promise.specs.TwoWays.{derated, oneWay, anotherWay, oneWayLines, earlyLines, laterLines, TwoWays}
 use Rattle.promise.proofs.Runs.{Fed, none-next, accepted-next, refused-next}
-use Rattle.promise.proofs.Example.{area₁, unit₁, unit₂, commitment₁, commitment₂, load₅, load₇, unloaded, loaded}
-use Rattle.promise.proofs.Example.{example, amountOf, added, dues-are, post-accepted, lines-are, obligations, obligations-listed}
+use Rattle.promise.proofs.Example.{area₁, unit₁, unit₂, commitment₁, commitment₂, load₅, load₇, unloaded, loaded, example, amountOf, added, dues-are}
+use Rattle.promise.proofs.Example.{post-accepted, lines-are, obligations, obligations-listed}
 use Rattle.promise.proofs.AllFigures.{before-loads-run}
 
 abbrev hour₁ : HourRecord
@@ -163,11 +164,11 @@ nets-listed price = refl
 abbrev duesAt : ℕ → List ℤ
 duesAt price = listBelow partyCount (due (amountOf nets) price 365 (element obligations))
 
-abbrev unplacedAt : ℕ → Bool
-unplacedAt price = isUnplaced (amountOf nets) price 365 (element obligations)
+abbrev undistributedAt : ℕ → Bool
+undistributedAt price = isUndistributed (amountOf nets) price 365 (element obligations)
 
-money : (duesAt 9000 ≡ oneWayLines) × (unplacedAt 9000 ≡ false) × (duesAt 100 ≡ earlyLines) × (unplacedAt 100 ≡ false)
-unfolding listBelow sumBelow above below priced charge ceiling charges ceilings credit left loadShare due isUnplaced split firstShares
+money : (duesAt 9000 ≡ oneWayLines) × (undistributedAt 9000 ≡ false) × (duesAt 100 ≡ earlyLines) × (undistributedAt 100 ≡ false)
+unfolding listBelow sumBelow above below priced charge ceiling charges ceilings credit left loadShare due isUndistributed split firstShares
 money = (refl, refl, refl, refl)
 
 module _ (acc : List Record) (price : ℕ) (f : factsOfList acc ≡ withHour price) where
@@ -176,7 +177,7 @@ module _ (acc : List Record) (price : ℕ) (f : factsOfList acc ≡ withHour pri
   dues-of e p h =
       ap (λ (F : Facts). dueIn F 0 p) f ∙ dues-are price (latestObligation loaded) counts last (nets-listed price) obligations-listed e p h
 
-  number-of : unplacedAt price ≡ false → refusalOf (asked (factsOfList acc) (Post 1)) (Post 1) ≡ 0
+  number-of : undistributedAt price ≡ false → refusalOf (asked (factsOfList acc) (Post 1)) (Post 1) ≡ 0
   number-of e = rw f (post-accepted price (latestObligation loaded) counts last (nets-listed price) obligations-listed e)
 
 lines-first : listBelow partyCount (reckonedLine first 0) ≡ oneWayLines

@@ -1,10 +1,13 @@
--- Figures a to j of document 01 ("Figures to be proved in a table"): those of settlement, and j.
+-- Figures a to j of document 01 ("Figures to be proved in a table"): those of the crates below, and j.
 use mathlib.Core.Path.{_≡_}
 use mathlib.Core.List.{List, [], _∷_, _++_, map}
 use Prim.Native.Nat.{ℕ, zero, suc, _/_, _%_}
 use lib.IntN.{ℤ, pos, negℤ}
 use lib.ListN.{length}
-use Rattle.settlement.specs.Figures as settlement
+use Rattle.numbers.specs.Figures.{SplitRow, splitGiven, splitRows}
+use Rattle.calendar.specs.Figures.{PeakRow, peakGiven, peakRows}
+use Rattle.capacity.specs.Figures.{CapacityRow, capacityGiven, capacityRows}
+use Rattle.money.specs.Figures.{CreditRow, creditGiven, creditRows}
 use Rattle.promise.specs.Reckoning.{Answered, answersOf}
 
 -- A number in so many bytes, high byte first, and a record: one tag byte, a two-byte length, then the value.
@@ -40,14 +43,23 @@ post a = tagged 7 (a ∷ [])
 
 -- one figure as the paper states it
 pub data Figure : Type 0 where
-  -- a figure of a to i
-  settled : settlement.Figure → Figure
-  -- strings, fed to the fresh reckoning from its start, and the number and lines for each
+  -- a to d, an answer to the peak question
+  peak : PeakRow → Figure
+  -- e to g, from a set to its shortfall
+  capacity : CapacityRow → Figure
+  -- h, a split
+  split : SplitRow → Figure
+  -- i, the credits of an area
+  credit : CreditRow → Figure
+  -- j, strings, fed to the fresh reckoning from its start, and the number and lines for each
   reckoned : List (List ℕ) → List Answered → Figure
 
 -- the definitions give the figure
 abbrev pub figureGiven : Figure → Type 0
-figureGiven (settled f) = settlement.figureGiven f
+figureGiven (peak r) = peakGiven r
+figureGiven (capacity r) = capacityGiven r
+figureGiven (split r) = splitGiven r
+figureGiven (credit r) = creditGiven r
 figureGiven (reckoned strings answers) = answersOf [] strings ≡ answers
 
 abbrev pub answer : ℕ → List ℤ → Answered
@@ -94,4 +106,4 @@ reckonedRows =
     ∷ []
 
 abbrev pub figures : List Figure
-figures = map settled settlement.figures ++ reckonedRows
+figures = map peak peakRows ++ map capacity capacityRows ++ map split splitRows ++ map credit creditRows ++ reckonedRows

@@ -4,12 +4,12 @@ use mathlib.Core.Path.{_≡_}
 use mathlib.Core.List.{List, [], _∷_, map, flatten}
 use Prim.Native.Nat.{ℕ, _+_}
 use lib.IntN.{_+ℤ_}
+use Rattle.numbers.specs.Lists.{listBelow}
+use Rattle.capacity.specs.Shortfall.{unitWattDays, wattDaysOf}
 use Rattle.records.specs.declared.format.Record.{Record}
 use Rattle.records.specs.declared.format.Record.the-variants.{Post}
 use Rattle.records.specs.Format.{commitmentCount, partyCount}
-use Rattle.records.specs.Dues.{wattDaysFor, partFor}
-use Rattle.settlement.specs.Lists.{listBelow}
-use Rattle.settlement.specs.Capacity.{unitWattDays, wattDaysOf}
+use Rattle.rules.specs.Dues.{wattDaysFor, partFor}
 use Rattle.book.specs.Books.{factsOfBook, emptyBook}
 use Rattle.book.specs.Entered.{bookAfter}
 use Rattle.promise.specs.Reckoning.{Answered, factsOfList, reckonedPaid, reckonedLine, answersOf, acceptedOf}

@@ -4,7 +4,7 @@ use mathlib.Core.List.{List, [], _∷_, _++_, map, flatMap}
 use Prim.Native.Nat.{ℕ, suc, _+_, _-_}
 use lib.IntN.{ℤ}
 use lib.ListN.{length, take, drop, set}
-use Rattle.settlement.specs.declared.Cents.{Cents}
+use Rattle.money.specs.declared.Cents.{Cents}
 use Rattle.promise.specs.Promise.{Entry, numberOf}
 
 -- Each string begins where the one before it ends. Where that is past its own end, or past the end of the bytes, it is empty.

@@ -1,14 +1,14 @@
 -- Demand 3. 01, Area money: "one claim about the whole list of strings, and not a claim for each record". The strings are any
 -- lists of numbers, of any length and content, and any number of them; refused ones are among them.
--- Area and party number k of 01 is k − 1 here, as in records' Facts.
+-- Area and party number k of 01 is k − 1 here, as in rules' Facts.
 use mathlib.Core.Path.{_≡_}
 use mathlib.Core.Bool.{Bool, true, false, cond, _&&_}
 use mathlib.Core.List.{List, [], _∷_, map, List·Memᴰ}
 use Prim.Native.Nat.{ℕ, _+_, _<_}
 use lib.IntN.{ℤ, pos, _+ℤ_}
 use lib.Dec.{eqb}
-use Rattle.settlement.specs.Signed.{sumBelowℤ}
-use Rattle.settlement.specs.Money.{centsOf}
+use Rattle.numbers.specs.Signed.{sumBelowℤ}
+use Rattle.money.specs.Quantities.{centsOf}
 use Rattle.records.specs.Format.{partyCount}
 use Rattle.records.specs.Decoded.{decoded}
 use Rattle.records.specs.Kinds.{ofPost}

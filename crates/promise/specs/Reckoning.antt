@@ -1,14 +1,14 @@
 -- The fresh reckoning. 01, Area money, "Fresh reckoning (demand 3)". It reads the strings and its own list of accepted
 -- records, and nothing of any book. The list is newest first: the paper's end of the list is its head here.
--- As an argument, area, unit, commitment and party number k of 01 is k − 1 here, as in records' Facts.
+-- As an argument, area, unit, commitment and party number k of 01 is k − 1 here, as in rules' Facts.
 use mathlib.Core.Bool.{cond, _&&_}
 use mathlib.Core.List.{List, [], _∷_}
 use Prim.Native.Nat.{ℕ, _+_, _-_}
 use lib.IntN.{ℤ, pos}
 use lib.Dec.{eqb}
-use Rattle.settlement.specs.declared.capacity.HourCounts.{HourCounts}
-use Rattle.settlement.specs.Lists.{listBelow}
-use Rattle.settlement.specs.Money.{line}
+use Rattle.numbers.specs.Lists.{listBelow}
+use Rattle.capacity.specs.declared.rating.HourCounts.{HourCounts}
+use Rattle.money.specs.Lines.{line}
 use Rattle.records.specs.declared.format.AreaRecord.{AreaRecord}
 use Rattle.records.specs.declared.format.UnitRecord.{UnitRecord}
 use Rattle.records.specs.declared.format.CommitmentRecord.{CommitmentRecord}
@@ -17,10 +17,10 @@ use Rattle.records.specs.declared.format.Record.{Record}
 use Rattle.records.specs.Format.{partyCount}
 use Rattle.records.specs.Decoded.{decoded}
 use Rattle.records.specs.Kinds.{ofYear, ofArea, ofUnit, ofCommitment, ofHour, ofLoad, ofPost}
-use Rattle.records.specs.Hours.{hourIndex, serviceHour, outageHour, deratedWatts}
-use Rattle.records.specs.Facts.{Facts, noArea, noUnit, noCommitment}
-use Rattle.records.specs.Dues.{dueIn}
-use Rattle.records.specs.Rules.{refusal}
+use Rattle.rules.specs.Hours.{hourIndex, serviceHour, outageHour, deratedWatts}
+use Rattle.rules.specs.Facts.{Facts, noArea, noUnit, noCommitment}
+use Rattle.rules.specs.Dues.{dueIn}
+use Rattle.rules.specs.Rules.{refusal}
 
 -- 01, Records, "Standing facts": the year; 0 before it is entered
 unfoldable pub yearOf : List Record → ℕ
@@ -65,7 +65,7 @@ sumOver f (h ∷ hs) = sumOver f hs + f h
 abbrev pub countsOf : ℕ → List HourRecord → HourCounts
 countsOf y hs = record { service = sumOver (serviceHour y) hs; outage = sumOver (outageHour y) hs; derated = sumOver (deratedWatts y) hs }
 
--- 01, Fresh reckoning: the unit's last accepted hour, by its place in delivery year y; 0 where there is none
+-- 01, Fresh reckoning: the unit's last accepted hour, by its index in delivery year y; 0 where there is none
 unfoldable pub lastIndex : ℕ → List HourRecord → ℕ
 lastIndex y [] = 0
 lastIndex y (h ∷ hs) = hourIndex y h

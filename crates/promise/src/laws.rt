@@ -1,5 +1,5 @@
 // Functions with empty bodies whose contracts are theorems: the gate asks for their proofs by name.
-ghost use Rattle.calendar.specs.Figures.{EachGiven};
+ghost use Rattle.numbers.specs.Rows.{EachGiven};
 ghost use Rattle.promise.specs.Promise.{Promise};
 ghost use Rattle.promise.specs.Laws.{LinesAddUp, SameAnswers, SameFacts, PartsAddUp, EveryLog};
 ghost use Rattle.promise.specs.Figures.{figureGiven, figures};

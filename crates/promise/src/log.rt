@@ -1,7 +1,7 @@
 // A whole log of strings, entered into a book that starts empty.
 use book::Book;
+use money::Cents;
 use records::stream::end_of;
-use settlement::Cents;
 ghost use mathlib.Core.Path.{_≡_};
 ghost use mathlib.Core.List.{map};
 ghost use Prim.Native.Nat.{_+_, _-_, _≤_, min};

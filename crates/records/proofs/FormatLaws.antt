@@ -1,59 +1,29 @@
--- Laws of the format, of the order of hours, and of the next record.
+-- Laws of the format and of the next record.
 use mathlib.Core.Path.{_≡_, refl, sym, subst, _∙_}
-use mathlib.Core.Bool.{Bool, true, false, cond, not, _&&_, _||_, false≢true}
+use mathlib.Core.Bool.{Bool, true, false, cond, not, _||_}
 use mathlib.Core.List.{List, _++_}
-use Prim.Native.Nat.{ℕ, _+_, _*_, _≤_, _<_}
+use Prim.Native.Nat.{ℕ, _+_, _≤_, _<_}
 use native.Mathlib.Nat.{min-le-right}
 use native.Mathlib.Omega.{arith}
-use lib.Dec.{eqb, ltb, leb}
+use lib.Dec.{eqb, ltb}
 use lib.ListN.{length, take, getD, length-take, List·getD-append}
 use lib.Seq.{length-take-le, getD-take}
-use borrow.Author.Tests.{ltb-true, ltb-false, eqb-true, eqb-false, leb-true, lt-ltb, le-ltb, eq-eqb, ne-eqb}
-use Rattle.calendar.specs.Range.{within}
-use Rattle.records.specs.declared.format.HourRecord.{HourRecord}
+use borrow.Author.Tests.{ltb-true, ltb-false, lt-ltb, le-ltb, eq-eqb, ne-eqb}
 use Rattle.records.specs.declared.stream.Next.{Next}
 use Rattle.records.specs.declared.stream.Next.the-variants.{Whole, Broken, Partial}
-use Rattle.records.specs.Format.{numberAt, formats, hourEnding}
+use Rattle.records.specs.Format.{numberAt, formats}
 use Rattle.records.specs.Decoded.{lengthOf, isBroken, decoded}
 use Rattle.records.specs.Kinds.{ofHour}
-use Rattle.records.specs.Hours.{hourIndex}
 use Rattle.records.specs.Stream.{nextRecord}
-use Rattle.records.specs.Laws.{adjoining, dayOf}
+use Rattle.records.specs.Laws.{adjoining}
 use Rattle.records.proofs.Frames.{hour-frame}
 
 pub fields-adjoin : adjoining formats ≡ true
 fields-adjoin = refl
 
-both : (a b : Bool) → (a && b) ≡ true → (a ≡ true) × (b ≡ true)
-both true b q = (refl, q)
-both false b q = absurd (false≢true q)
-
 second : (a b : Bool) → b ≡ true → (a || b) ≡ true
 second true b q = refl
 second false b q = q
-
--- the ends of a range
-ends : (m n x : ℕ) → within m n x ≡ true → (m ≤ x) × (x ≤ n)
-unfolding within
-ends m n x q = (leb-true m x (both (leb m x) (leb x n) q .0), leb-true x n (both (leb m x) (leb x n) q .1))
-
--- numbers of a day and an hour ending, in one
-by-day-then-hour : (d e h k : ℕ) → 1 ≤ h → h ≤ 24 → 1 ≤ k → k ≤ 24
-    → ltb (d * 24 + h) (e * 24 + k) ≡ (ltb d e || (eqb d e && ltb h k))
-by-day-then-hour d e h k h₁ h₂ k₁ k₂ = go (ltb d e) (eqb d e) (ltb h k) refl refl refl
-  where
-    go : (a b c : Bool) → ltb d e ≡ a → eqb d e ≡ b → ltb h k ≡ c → ltb (d * 24 + h) (e * 24 + k) ≡ (a || (b && c))
-    go true b c p q r = lt-ltb (d * 24 + h) (e * 24 + k) (omega (arith, ltb-true d e p))
-    go false true true p q r = lt-ltb (d * 24 + h) (e * 24 + k) (omega (arith, eqb-true d e q, ltb-true h k r))
-    go false true false p q r = le-ltb (d * 24 + h) (e * 24 + k) (omega (arith, eqb-true d e q, ltb-false h k r))
-    go false false c p q r = le-ltb (d * 24 + h) (e * 24 + k) (omega (arith, ltb-false d e p, eqb-false d e q))
-
-pub hours-ordered : (y : ℕ) (h k : HourRecord) → hourEnding .holds (h .hour) ≡ true → hourEnding .holds (k .hour) ≡ true
-    → ltb (hourIndex y h) (hourIndex y k) ≡ (ltb (dayOf y h) (dayOf y k) || (eqb (dayOf y h) (dayOf y k) && ltb (h .hour) (k .hour)))
-unfolding hourIndex
-hours-ordered y h k p q =
-    by-day-then-hour (dayOf y h) (dayOf y k) (h .hour) (k .hour)
-    (ends 1 24 (h .hour) p .0) (ends 1 24 (h .hour) p .1) (ends 1 24 (k .hour) q .0) (ends 1 24 (k .hour) q .1)
 
 -- two strings with the same bytes 1 and 2 state the same length
 same-stated : (s t : List ℕ) → getD s 1 0 ≡ getD t 1 0 → getD s 2 0 ≡ getD t 2 0 → lengthOf s ≡ lengthOf t

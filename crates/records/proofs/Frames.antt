@@ -1,4 +1,4 @@
--- What the frame of a string says of its length, and which row a length fits.
+-- What the frame of a string says of its length.
 use mathlib.Core.Path.{_≡_, refl, sym, _∙_}
 use mathlib.Core.Bool.{Bool, true, false, cond, not, _||_, true≢false}
 use mathlib.Core.List.{List}
@@ -8,15 +8,12 @@ use lib.Dec.{eqb, ltb}
 use lib.ListN.{length}
 use borrow.Author.Tests.{eq-eqb, ne-eqb, eqb-true, eqb-false, not-false}
 use Rattle.records.specs.declared.format.HourRecord.{HourRecord}
-use Rattle.records.specs.declared.format.Fault.{Fault}
-use Rattle.records.specs.declared.format.Fault.the-variants.{Broken, UnknownTag, WrongLength}
+use Rattle.records.specs.declared.format.Fault.the-variants.{Broken, WrongLength}
 use Rattle.records.specs.declared.format.Record.{Record}
 use Rattle.records.specs.declared.format.Record.the-variants.{Unframed, Hour}
-use Rattle.records.specs.declared.refusal.Asked.{Asked}
 use Rattle.records.specs.Format.{Format, bytesOf, valuesOf, hourFormat}
 use Rattle.records.specs.Decoded.{tagOf, lengthOf, isBroken, ofLength, framed, decoded}
-use Rattle.records.specs.Kinds.{faultNumber, hourFrom, ofHour}
-use Rattle.records.specs.Refusal.{refusalOf}
+use Rattle.records.specs.Kinds.{hourFrom, ofHour}
 
 neither : (a b : Bool) → (a || b) ≡ false → (a ≡ false) × (b ≡ false)
 neither true b q = absurd (true≢false q)
@@ -39,13 +36,6 @@ module _ (f : Format) (s : List ℕ) (framed : isBroken s ≡ false) where
   pub not-of-length : (made : List ℕ → Record) → (length s ≡ bytesOf f → ⊥) → Unframed WrongLength ≡ ofLength f s made
   unfolding ofLength
   not-of-length made ne = rw (ne-eqb (lengthOf s) (f .size) (omega (arith, whole s framed)))
-
--- a fault's number is that of its row
-pub fault-row : (a : Asked) (f : Fault) → faultNumber f ≡ refusalOf a (Unframed f)
-unfolding faultNumber refusalOf
-fault-row a Broken = refl
-fault-row a UnknownTag = refl
-fault-row a WrongLength = refl
 
 -- An Hour record by its frame: twelve bytes, tag 5, and a stated length of 9.
 pub hour-framed : (s : List ℕ) → length s ≡ 12 → tagOf s ≡ 5 → lengthOf s ≡ 9 → decoded s ≡ Hour (hourFrom (valuesOf hourFormat s))

@@ -1,9 +1,4 @@
-pub mod Tests
 pub mod Frames
 pub mod Numbers
-pub mod Named
 pub mod FormatLaws
-pub mod AcceptedRows
 pub mod OneKind
-pub mod Fields
-pub mod ByKind

@@ -9,13 +9,13 @@ use mir.Val.{hasKey}
 use types.Run.{OneOf, miss}
 use denote.Enum.Declared.{tagOf}
 use borrow.Author.Tests.{eqb-true, ltb-true, ne-eqb}
-use Rattle.settlement.specs.Lists.{element}
+use Rattle.numbers.specs.Lists.{element}
 use Rattle.records.specs.declared.format.Fault.the-variants.{Broken}
 use Rattle.records.specs.declared.format.Record.{Record}
 use Rattle.records.specs.declared.format.Record.the-variants.{Unframed, Year, Area, Unit, Commitment, Hour, Load, Post}
-use Rattle.records.proofs.format.Record.{the-type}
 use Rattle.records.specs.Format.{Format, formats}
 use Rattle.records.specs.Kinds.{tagOfRecord, numbersOf, areaFrom, unitFrom, commitmentFrom, hourFrom, loadFrom, isOf}
+use Rattle.records.proofs.format.Record.{the-type}
 
 abbrev pub made : ℕ → List ℕ → Record
 made t l =

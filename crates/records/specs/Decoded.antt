@@ -4,13 +4,13 @@ use mathlib.Core.List.{List}
 use Prim.Native.Nat.{ℕ, _+_}
 use lib.Dec.{eqb, ltb}
 use lib.ListN.{length}
-use Rattle.settlement.specs.Lists.{element}
+use Rattle.numbers.specs.Lists.{element}
 use Rattle.records.specs.declared.format.Fault.the-variants.{Broken, UnknownTag, WrongLength}
 use Rattle.records.specs.declared.format.Record.{Record}
 use Rattle.records.specs.declared.format.Record.the-variants.{Unframed, Year, Area, Unit, Commitment, Hour, Load, Post}
-use Rattle.records.specs.Format.{Format, numberAt, valuesOf}
-use Rattle.records.specs.Format.{yearFormat, areaFormat, unitFormat, commitmentFormat, hourFormat, loadFormat, postFormat}
-use Rattle.records.specs.Kinds.{areaFrom, unitFrom, commitmentFrom, hourFrom, loadFrom}
+use Rattle.records.specs.Format.{Format, numberAt, valuesOf, yearFormat, areaFormat, unitFormat, commitmentFormat, hourFormat, loadFormat, postFormat}
+use Rattle.records.specs.Kinds.{areaFrom, unitFrom, commitmentFrom, hourFrom, loadFrom, ofHour}
+use Rattle.records.specs.declared.format.HourRecord.{HourRecord}
 
 -- the tag and the length that a string states
 abbrev pub tagOf : List ℕ → ℕ
@@ -45,3 +45,10 @@ framed s =
 
 unfoldable pub decoded : List ℕ → Record
 decoded s = cond (isBroken s) (Unframed Broken) (framed s)
+
+abbrev pub noHour : HourRecord
+noHour = record { unit = 0; month = 0; day = 0; hour = 0; kind = 0; derating = 0 }
+
+-- the Hour record that a string is; all zeros, which no accepted record is, where it is none
+abbrev pub hourOf : List ℕ → HourRecord
+hourOf s = ofHour noHour (λ h. h) (decoded s)

@@ -4,7 +4,8 @@ use mathlib.Core.List.{List, [], _∷_, map}
 use mathlib.Core.Bool.{Bool, true, false, _&&_}
 use Prim.Native.Nat.{ℕ, zero, suc, _+_, _*_}
 use lib.ListN.{getD}
-use Rattle.calendar.specs.Range.{within}
+use Rattle.numbers.specs.Range.{within}
+use Rattle.capacity.specs.Shortfall.{installedMost, rateMost, commitmentMost}
 
 -- 01, Records, the ranges of the table: areas 1–8, units 1–32, commitments 1–64, parties 1–16
 abbrev pub areaCount : ℕ
@@ -53,7 +54,7 @@ abbrev pub partyAt : ℕ → Field
 partyAt o = field o 1 1 partyCount
 
 abbrev pub rateAt : ℕ → Field
-rateAt o = field o 4 0 99999
+rateAt o = field o 4 0 rateMost
 
 -- 0x01 Year: y
 abbrev pub yearFormat : Format
@@ -65,12 +66,12 @@ areaFormat = format 2 5 (areaAt 0 ∷ field 1 4 0 50000 ∷ [])
 
 -- 0x03 Unit: unit; area; I in W; rates e, f, g; class
 abbrev pub unitFormat : Format
-unitFormat = format 3 19 (unitAt 0 ∷ areaAt 1 ∷ field 2 4 1 5000000 ∷ rateAt 6 ∷ rateAt 10 ∷ rateAt 14 ∷ field 18 1 0 2 ∷ [])
+unitFormat = format 3 19 (unitAt 0 ∷ areaAt 1 ∷ field 2 4 1 installedMost ∷ rateAt 6 ∷ rateAt 10 ∷ rateAt 14 ∷ field 18 1 0 2 ∷ [])
 
 -- 0x04 Commitment: number; unit; party; first day, last day; watts
 abbrev pub commitmentFormat : Format
 commitmentFormat = format 4 11
-    (field 0 1 1 commitmentCount ∷ unitAt 1 ∷ partyAt 2 ∷ ruledAt 3 2 ∷ ruledAt 5 2 ∷ field 7 4 0 5000000 ∷ [])
+    (field 0 1 1 commitmentCount ∷ unitAt 1 ∷ partyAt 2 ∷ ruledAt 3 2 ∷ ruledAt 5 2 ∷ field 7 4 0 commitmentMost ∷ [])
 
 -- 0x05 Hour: unit; month, day, hour ending; kind; derating in W
 abbrev pub hourEnding : Field

@@ -3,9 +3,9 @@ use mathlib.Core.Bool.{Bool, false, cond, _||_}
 use mathlib.Core.List.{List, [], _∷_}
 use Prim.Native.Nat.{ℕ}
 use lib.Dec.{eqb}
-use Rattle.settlement.specs.declared.capacity.Rating.{Rating}
-use Rattle.settlement.specs.Lists.{element}
-use Rattle.settlement.specs.Quantities.{installedWatts}
+use Rattle.numbers.specs.Lists.{element}
+use Rattle.capacity.specs.declared.rating.Rating.{Rating}
+use Rattle.capacity.specs.Quantities.{installedWatts}
 use Rattle.records.specs.declared.format.AreaRecord.{AreaRecord}
 use Rattle.records.specs.declared.format.UnitRecord.{UnitRecord}
 use Rattle.records.specs.declared.format.CommitmentRecord.{CommitmentRecord}

@@ -1,16 +1,13 @@
 -- What the definitions of this folder give, for all arguments.
 use mathlib.Core.Path.{_≡_}
-use mathlib.Core.Bool.{Bool, true, false, _&&_, _||_}
+use mathlib.Core.Bool.{Bool, true, false, _&&_}
 use mathlib.Core.List.{List, [], _∷_, _++_}
 use Prim.Native.Nat.{ℕ, _+_, _≤_}
-use lib.Dec.{eqb, ltb}
+use lib.Dec.{eqb}
 use lib.ListN.{length, take}
-use Rattle.calendar.specs.DeliveryYear.{deliveryDay}
-use Rattle.records.specs.declared.format.HourRecord.{HourRecord}
 use Rattle.records.specs.declared.stream.Next.the-variants.{Whole, Broken, Partial}
-use Rattle.records.specs.Format.{Field, Format, formats, hourEnding}
+use Rattle.records.specs.Format.{Field, Format, formats}
 use Rattle.records.specs.Decoded.{isBroken}
-use Rattle.records.specs.Hours.{hourIndex}
 use Rattle.records.specs.Stream.{nextRecord}
 
 -- the first field begins at `from`, each other where the one before it ends, and the last ends at `size`
@@ -22,15 +19,9 @@ abbrev pub adjoining : List Format → Bool
 adjoining [] = true
 adjoining (f ∷ fs) = adjoinTo (f .size) (f .fields) 0 && adjoining fs
 
-abbrev pub dayOf : ℕ → HourRecord → ℕ
-dayOf y h = deliveryDay y (h .month) (h .day)
-
 pub record RecordLaws : Type 0 where
   -- the fields of every format fill its value, without gap or overlap
   pub fields-adjoin : adjoining formats ≡ true
-  -- one hour comes before another if its day does, or if the day is the same and its hour ending is lower
-  pub hours-ordered : (y : ℕ) (h k : HourRecord) → hourEnding .holds (h .hour) ≡ true → hourEnding .holds (k .hour) ≡ true
-      → ltb (hourIndex y h) (hourIndex y k) ≡ (ltb (dayOf y h) (dayOf y k) || (eqb (dayOf y h) (dayOf y k) && ltb (h .hour) (k .hour)))
   -- row 1 does not fit the record that a stream is cut at, and it is all there
   pub whole-not-broken : (s : List ℕ) (n : ℕ) → nextRecord s ≡ Whole n → (n ≤ length s) × (isBroken (take n s) ≡ false)
   -- what is broken for certain: row 1 fits it at any length, whatever follows

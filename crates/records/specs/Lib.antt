@@ -1,10 +1,5 @@
 pub mod Format
 pub mod Kinds
 pub mod Decoded
-pub mod Hours
-pub mod Refusal
-pub mod Facts
-pub mod Dues
-pub mod Rules
 pub mod Stream
 pub mod Laws

@@ -13,19 +13,18 @@ use crate::format::Record;
 use crate::format::UNIT_BYTES;
 use crate::format::UnitRecord;
 use crate::format::YEAR_BYTES;
-use settlement::InstalledWatts;
-use settlement::capacity::Rating;
+use capacity::InstalledWatts;
+use capacity::rating::Rating;
 ghost use mathlib.Core.Path.{_≡_};
 ghost use mathlib.Core.Bool.{false};
 ghost use Prim.Native.Nat.{_+_, _≤_, _<_};
 ghost use lib.ListN.{length};
+ghost use Rattle.numbers.specs.Lists.{element};
 ghost use Rattle.records.specs.declared.format.Record.the-variants.{Year, Area, Unit, Commitment, Hour, Load, Post};
-ghost use Rattle.settlement.specs.Lists.{element};
-ghost use Rattle.records.specs.Format.{numberAt, bytesOf, valuesOf};
-ghost use Rattle.records.specs.Format.{yearFormat, areaFormat, unitFormat, commitmentFormat, hourFormat, loadFormat, postFormat};
+ghost use Rattle.records.specs.Format.{numberAt, bytesOf, valuesOf, yearFormat, areaFormat, unitFormat, commitmentFormat, hourFormat, loadFormat};
+ghost use Rattle.records.specs.Format.{postFormat};
 ghost use Rattle.records.specs.Kinds.{areaFrom, unitFrom, commitmentFrom, hourFrom, loadFrom};
-ghost use Rattle.records.specs.Decoded.{isBroken, ofLength, framed, decoded};
-ghost use Rattle.records.specs.Hours.{noHour, hourOf};
+ghost use Rattle.records.specs.Decoded.{isBroken, ofLength, framed, decoded, noHour, hourOf};
 
 fn byte(s: &[u8], from: usize) -> u32
     requires { ⌜ from < length (now s) ⌝ }

@@ -1,14 +1,5 @@
-// What a record holds, by kind. specs/Format.antt has each field's place and range.
-use settlement::capacity::Rating;
-
-// Areas, units, commitments and parties are numbered from 1 to these.
-pub(crate) const AREAS: u64 = 8;
-
-pub(crate) const UNITS: u64 = 32;
-
-pub(crate) const COMMITMENTS: u64 = 64;
-
-pub(crate) const PARTIES: u64 = 16;
+// What a record holds, by kind. specs/Format.antt has each field's offset and range.
+use capacity::rating::Rating;
 
 // The bytes of a record of each kind: three of tag and length, and its value.
 pub(crate) const YEAR_BYTES: usize = 5;

@@ -32,7 +32,7 @@ pub fn next_record(s: &[u8]) -> Next
     Next::Whole(end)
 }
 
-// The place `to`, or the end of s where that comes first.
+// The index `to`, or the end of s where that comes first.
 pub fn end_of(s: &[u8], to: usize) -> usize
     ensures { λ r. ⌜ r ≡ min to (length (now (s .entry))) ⌝ }
 {

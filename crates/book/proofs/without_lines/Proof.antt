@@ -1,9 +1,8 @@
-use borrow.Author.Needs.{needs}
 use Rattle.book.proofs.without_lines.Statement.{statement}
 use Rattle.book.proofs.without_lines.Tie as tie
 
 no-lines-requires : tie.Need-no-lines-requires
-no-lines-requires c κs = search needs
+no-lines-requires c κs = tt
 
 returns : tie.Need-returns
 returns c = simp (c .no-lines .ensures)

@@ -2,7 +2,7 @@ use mathlib.Core.Path.{_≡_, refl}
 use native.Mathlib.Omega.{arith}
 use lib.ListN.{length}
 use borrow.Author.Needs.{needs}
-use Rattle.ledger.specs.Passes.{Running}
+use Rattle.ledger.specs.Turns.{Running}
 use Rattle.ledger.proofs.run.Statement.{statement}
 use Rattle.ledger.proofs.run.Tie as tie
 
@@ -14,7 +14,7 @@ abbrev μ-loop : tie.MeasureT-loop
 μ-loop buf₀ out₀ t₀ end₀ left₀ turns₀ buf out t end left turns = turns
 
 new-requires : tie.Need-new-requires Inv-loop μ-loop
-new-requires c κs = search needs
+new-requires c κs = tt
 
 sub-left : tie.Need-sub-left Inv-loop μ-loop
 sub-left c = omega arith
@@ -29,10 +29,10 @@ take-turn-requires : tie.Need-take-turn-requires Inv-loop μ-loop
 take-turn-requires c κs = c .before .before .before .loop .inv .0
 
 same-length : tie.Need-same-length Inv-loop μ-loop
-same-length c = search needs
+same-length c = omega arith
 
 same-length-2 : tie.Need-same-length-2 Inv-loop μ-loop
-same-length-2 c = search needs
+same-length-2 c = omega arith
 
 returns : tie.Need-returns Inv-loop μ-loop
 returns c = tt

@@ -2,27 +2,25 @@ use mathlib.Core.Path.{_≡_, sym}
 use mathlib.Core.List.{List}
 use Prim.Native.Nat.{ℕ, _+_, _-_, _^_, _≤_, _<_}
 use native.Mathlib.Omega.{arith}
-use lib.ListN.{length}
+use lib.ListN.{length, take}
 use lib.Seq.{length-take-le}
 use denote.Ref.{now}
-use Rattle.ledger.specs.declared.pass.Tally.{Tally}
-use Rattle.ledger.specs.declared.pass.Stop.{Stop}
-use Rattle.ledger.specs.Passes.{emptied, Ready, free}
-use Rattle.ledger.proofs.Passing.{room-left, printed-ready, printed-tried}
 use borrow.Author.Needs.{needs}
+use Rattle.report.specs.Passes.{stoppedOf, passed, stateOf, Left, Ready, free, emptied}
+use Rattle.report.specs.declared.pass.Tally.{Tally}
+use Rattle.report.specs.declared.pass.Stop.{Stop}
+use Rattle.report.proofs.Passing.{room-left, printed-ready, printed-tried}
 use Rattle.ledger.proofs.take_turn.Statement.{statement}
 use Rattle.ledger.proofs.take_turn.Tie as tie
 
 slice-reshare-prefix-take-records : tie.Need-slice-reshare-prefix-take-records
-slice-reshare-prefix-take-records c = search needs
+slice-reshare-prefix-take-records c = omega arith
 
 slice-aggregate-take-records : tie.Need-slice-aggregate-take-records
 slice-aggregate-take-records c = sym (length-take-le _ _ (omega arith))
 
 take-records-requires : tie.Need-take-records-requires
-take-records-requires c κs =
-    let start = c .before .before .before .before in
-    (start .pre .0, omega (arith, start .pre .2, length-take-le (start .args .end) (now (start .args .buf)) (start .pre .1)))
+take-records-requires c κs = c .before .before .before .before .pre .0 .0
 
 -- the start of the turn, and the records of its buffer, as they are seen further on
 abbrev start : tie.After-take-records → tie.Start
@@ -31,13 +29,23 @@ start c = c .before .before .before .before .before
 abbrev taken : tie.After-carry → tie.After-take-records
 taken c = c .before .before .before .before .before
 
--- what the records of the buffer leave of it, and their count
+-- the records of the buffer are tried as `passed` says, and what they leave
+leaves : (c : tie.After-take-records)
+    → (stoppedOf (c .take-records .result) (c .take-records .last .1 .1 .0)
+    ≡ passed (length (now (start c .args .out))) (stateOf (start c .args .t) (now (start c .args .out))) (take (start c .args .end) (now (start c .args .buf))))
+    × Ready (free (c .take-records .result .stop)) (c .take-records .result .tally) (c .take-records .last .1 .1 .0)
+    × Left (c .take-records .result .next) (c .take-records .result .tally .tried) (start c .args .t .tried) (take (start c .args .end) (now (start c .args .buf)))
+leaves c =
+    c .take-records .ensures .1 (start c .pre .0)
+    (omega (arith, start c .pre .2, length-take-le (start c .args .end) (now (start c .args .buf)) (start c .pre .1)))
+
+-- what is left of the buffer, and the count
 left-over : (c : tie.After-take-records)
     → (c .take-records .result .next ≤ start c .args .end)
     × (c .take-records .result .tally .tried + (start c .args .end - c .take-records .result .next) ≤ start c .args .t .tried + start c .args .end)
 left-over c =
     let all = length-take-le (start c .args .end) (now (start c .args .buf)) (start c .pre .1) in
-    (omega (arith, all, c .take-records .ensures .1 .1 .0), omega (arith, all, c .take-records .ensures .1 .1 .1))
+    (omega (arith, all, leaves c .2 .0), omega (arith, all, leaves c .2 .1))
 
 carry-requires : tie.Need-carry-requires
 carry-requires c κs = (left-over (c .before .before .before .before) .0, omega arith)
@@ -53,72 +61,69 @@ carried c =
 -- the room that the records of the buffer leave, by why they stopped
 room : (c : tie.After-take-records) {u : Stop} → c .take-records .result .stop ≡ u
     → c .take-records .result .tally .used + free u ≤ length (c .take-records .last .1 .1 .0)
-room c e = room-left (c .take-records .result .tally) (c .take-records .last .1 .1 .0) e (c .take-records .ensures .1 .0)
+room c e = room-left (c .take-records .result .tally) (c .take-records .last .1 .1 .0) e (leaves c .1)
 
 -- the run goes on with its text printed
 printed : (c : tie.After-carry) (out : List ℕ) {x : Tally} → x ≡ emptied (taken c .take-records .result .tally)
     → Ready 0 x out × (x .tried + c .carry .result + start (taken c) .args .left < 2 ^ 64 - 1)
 printed c out e =
     let t = taken c .take-records .result .tally in
-    let ready = taken c .take-records .ensures .1 .0 in
+    let ready = leaves (taken c) .1 in
     (printed-ready t out e (ready .0) (ready .1), omega (arith, printed-tried t e, carried c .1))
 
 enum-told : tie.Need-enum-told
-enum-told c = search needs
+enum-told c = omega arith
 
 slice-reshare-prefix-print : tie.Need-slice-reshare-prefix-print
-slice-reshare-prefix-print c = search needs
+slice-reshare-prefix-print c =
+    let records = c .before .before .before .before .before .before .before .before .before in
+    omega (arith, leaves records .1 .2)
 
 slice-aggregate-print : tie.Need-slice-aggregate-print
 slice-aggregate-print c =
     let records = c .before .before .before .before .before .before .before .before .before .before in
-    sym (length-take-le _ _ (omega (arith, records .take-records .ensures .1 .0 .2)))
+    sym (length-take-le _ _ (omega (arith, leaves records .1 .2)))
 
 print-requires : tie.Need-print-requires
-print-requires c κs = search needs
+print-requires c κs = tt
 
 printed-requires : tie.Need-printed-requires
-printed-requires c κs = search needs
+printed-requires c κs = tt
 
 enum-told-2 : tie.Need-enum-told-2
-enum-told-2 c = search needs
+enum-told-2 c = omega arith
 
-put-end-requires : tie.Need-put-end-requires
-put-end-requires c κs = room (c .before .before .before .before .before .before .before .before .before .before) (c .before .enum-told2 .given .1)
+last-line-requires : tie.Need-last-line-requires
+last-line-requires c κs = room (c .before .before .before .before .before .before .before .before .before .before) (c .before .enum-told2 .given .1)
 
 slice-reshare-prefix-print-2 : tie.Need-slice-reshare-prefix-print-2
-slice-reshare-prefix-print-2 c =
-    let records = c .before .before .before .before .before .before .before .before .before .before .before .before .before in
-    omega (arith, room records (c .before .before .before .before .enum-told2 .given .1), c .before .before .put-end .ensures .1)
+slice-reshare-prefix-print-2 c = omega arith
 
 slice-aggregate-print-2 : tie.Need-slice-aggregate-print-2
-slice-aggregate-print-2 c =
-    let records = c .before .before .before .before .before .before .before .before .before .before .before .before .before .before in
-    let free = room records (c .before .before .before .before .before .enum-told2 .given .1) in
-    sym (length-take-le _ _ (omega (arith, free, c .before .before .before .put-end .ensures .1)))
+slice-aggregate-print-2 c = sym (length-take-le _ _ (c .before .before .before .last-line .ensures .1))
 
 print-requires-2 : tie.Need-print-requires-2
-print-requires-2 c κs = search needs
+print-requires-2 c κs = tt
 
 printed-requires-2 : tie.Need-printed-requires-2
-printed-requires-2 c κs = search needs
+printed-requires-2 c κs = tt
 
 enum-told-3 : tie.Need-enum-told-3
-enum-told-3 c = search needs
+enum-told-3 c = omega arith
 
 read-more-requires : tie.Need-read-more-requires
 read-more-requires c κs =
     let carry = c .before .before .before .before .before .before in
-    let ready = taken carry .take-records .ensures .1 .0 in
+    let ready = leaves (taken carry) .1 in
     let free = room (taken carry) (c .before .before .enum-told3 .given .1) in
     let kept = carried carry in
     (((ready .0, ready .1, omega (arith, free)), omega (arith, kept .0, start (taken carry) .pre .1), kept .1), (ready .0, ready .1, free))
 
 same-length : tie.Need-same-length
-same-length c = search needs
+same-length c = omega arith
 
 same-length-2 : tie.Need-same-length-2
-same-length-2 c = search needs
+same-length-2 c = omega arith
 
 returns : tie.Need-returns
 returns c =
@@ -127,22 +132,22 @@ returns c =
     (run .0, omega (arith, carried carry .0, start (taken carry) .pre .1), run .1)
 
 same-length-3 : tie.Need-same-length-3
-same-length-3 c = search needs
+same-length-3 c = omega arith
 
 same-length-4 : tie.Need-same-length-4
-same-length-4 c = search needs
+same-length-4 c = omega arith
 
 returns-2 : tie.Need-returns-2
 returns-2 c =
     let carry = c .before .before .before .before .before .before .before .before .before .before .before in
-    let run = printed carry (c .before .before .before .before .before .put-end .last .0) (c .printed2 .ensures) in
+    let run = printed carry (c .before .before .before .before .before .last-line .last .1 .0) (c .printed2 .ensures) in
     (run .0, omega (arith, carried carry .0, start (taken carry) .pre .1), run .1)
 
 same-length-5 : tie.Need-same-length-5
-same-length-5 c = search needs
+same-length-5 c = omega arith
 
 same-length-6 : tie.Need-same-length-6
-same-length-6 c = search needs
+same-length-6 c = omega arith
 
 returns-3 : tie.Need-returns-3
 returns-3 c = search needs
@@ -161,7 +166,7 @@ take-turn-spec =
     print-requires
     printed-requires
     enum-told-2
-    put-end-requires
+    last-line-requires
     slice-reshare-prefix-print-2
     slice-aggregate-print-2
     print-requires-2

@@ -1,23 +1,23 @@
-use native.Mathlib.Omega.{arith}
 use mathlib.Core.Path.{refl, ap, _∙_}
 use mathlib.Core.List.{[], _∷_}
+use native.Mathlib.Omega.{arith}
 use borrow.Author.Needs.{needs}
 use Rattle.records.specs.Format.{yearFormat, areaFormat, unitFormat, commitmentFormat, hourFormat, loadFormat, postFormat}
-use Rattle.records.specs.Rules.{areaNamed, unitNamed}
 use Rattle.records.proofs.OneKind.{another}
+use Rattle.rules.specs.Rules.{areaNamed, unitNamed}
 use Rattle.book.specs.Steps.{postAnswer}
 use Rattle.book.proofs.Answers.{number-is, refused, posted, stored-as, sound-answer}
 use Rattle.book.proofs.Book.enter.Statement.{statement}
 use Rattle.book.proofs.Book.enter.Tie as tie
 
 decode-requires : tie.Need-decode-requires
-decode-requires c κs = search needs
+decode-requires c κs = tt
 
 area-named-requires : tie.Need-area-named-requires
-area-named-requires c κs = search needs
+area-named-requires c κs = tt
 
 unit-named-requires : tie.Need-unit-named-requires
-unit-named-requires c κs = search needs
+unit-named-requires c κs = tt
 
 mul-area : tie.Need-mul-area
 mul-area c = omega arith
@@ -32,13 +32,13 @@ element-copy-out-unit : tie.Need-element-copy-out-unit
 element-copy-out-unit c = omega arith
 
 asked-of-requires : tie.Need-asked-of-requires
-asked-of-requires c κs = search needs
+asked-of-requires c κs = tt
 
 refusal-requires : tie.Need-refusal-requires
-refusal-requires c κs = search needs
+refusal-requires c κs = tt
 
 without-lines-requires : tie.Need-without-lines-requires
-without-lines-requires c κs = search needs
+without-lines-requires c κs = tt
 
 returns : tie.Need-returns
 returns c =
@@ -52,13 +52,13 @@ returns c =
     sound-answer b _ (start .pre) (refused b _ (read .before .before .decode .ensures) number (ruled .if1 .taken) (c .without-lines .ensures))
 
 enum-known-r : tie.Need-enum-known-r
-enum-known-r c = search needs
+enum-known-r c = omega arith
 
 without-lines-requires-2 : tie.Need-without-lines-requires-2
-without-lines-requires-2 c κs = search needs
+without-lines-requires-2 c κs = tt
 
 enum-known-r-2 : tie.Need-enum-known-r-2
-enum-known-r-2 c = search needs
+enum-known-r-2 c = omega arith
 
 mul-a : tie.Need-mul-a
 mul-a c = omega arith
@@ -67,13 +67,13 @@ element-set-from-a : tie.Need-element-set-from-a
 element-set-from-a c = omega arith
 
 without-lines-requires-3 : tie.Need-without-lines-requires-3
-without-lines-requires-3 c κs = search needs
+without-lines-requires-3 c κs = tt
 
 enum-known-r-3 : tie.Need-enum-known-r-3
-enum-known-r-3 c = search needs
+enum-known-r-3 c = omega arith
 
 new-unit-requires : tie.Need-new-unit-requires
-new-unit-requires c κs = search needs
+new-unit-requires c κs = tt
 
 mul-t36 : tie.Need-mul-t36
 mul-t36 c = omega arith
@@ -82,13 +82,13 @@ element-set-from-self : tie.Need-element-set-from-self
 element-set-from-self c = omega arith
 
 without-lines-requires-4 : tie.Need-without-lines-requires-4
-without-lines-requires-4 c κs = search needs
+without-lines-requires-4 c κs = tt
 
 enum-known-r-4 : tie.Need-enum-known-r-4
-enum-known-r-4 c = search needs
+enum-known-r-4 c = omega arith
 
 number-index-requires : tie.Need-number-index-requires
-number-index-requires c κs = search needs
+number-index-requires c κs = tt
 
 mul-c : tie.Need-mul-c
 mul-c c = omega arith
@@ -97,10 +97,10 @@ element-set-from-c : tie.Need-element-set-from-c
 element-set-from-c c = omega arith
 
 without-lines-requires-5 : tie.Need-without-lines-requires-5
-without-lines-requires-5 c κs = search needs
+without-lines-requires-5 c κs = tt
 
 enum-known-r-5 : tie.Need-enum-known-r-5
-enum-known-r-5 c = search needs
+enum-known-r-5 c = omega arith
 
 with-hour-requires : tie.Need-with-hour-requires
 with-hour-requires c κs = c .before .before .before .before .before .before .before .before .before .before .before .before .pre .units .each _
@@ -112,13 +112,13 @@ element-set-from-self-2 : tie.Need-element-set-from-self-2
 element-set-from-self-2 c = omega arith
 
 without-lines-requires-6 : tie.Need-without-lines-requires-6
-without-lines-requires-6 c κs = search needs
+without-lines-requires-6 c κs = tt
 
 enum-known-r-6 : tie.Need-enum-known-r-6
-enum-known-r-6 c = search needs
+enum-known-r-6 c = omega arith
 
 party-index-requires : tie.Need-party-index-requires
-party-index-requires c κs = search needs
+party-index-requires c κs = tt
 
 area-party-requires : tie.Need-area-party-requires
 area-party-requires c κs = search needs
@@ -130,19 +130,19 @@ element-write-self : tie.Need-element-write-self
 element-write-self c = omega arith
 
 without-lines-requires-7 : tie.Need-without-lines-requires-7
-without-lines-requires-7 c κs = search needs
+without-lines-requires-7 c κs = tt
 
 enum-told : tie.Need-enum-told
-enum-told c = search needs
+enum-told c = omega arith
 
 post-requires : tie.Need-post-requires
 post-requires c κs = search needs
 
 enum-told-2 : tie.Need-enum-told-2
-enum-told-2 c = search needs
+enum-told-2 c = omega arith
 
 without-lines-requires-8 : tie.Need-without-lines-requires-8
-without-lines-requires-8 c κs = search needs
+without-lines-requires-8 c κs = tt
 
 returns-2 : tie.Need-returns-2
 returns-2 c =

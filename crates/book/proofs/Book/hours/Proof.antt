@@ -1,14 +1,13 @@
 use mathlib.Core.Path.{_≡_, refl, ap, _∙_}
 use Prim.Native.Nat.{_-_, _/_}
 use native.Mathlib.Omega.{arith}
-use borrow.Author.Needs.{needs}
-use borrow.Author.Tests.{leb-false}
-use Rattle.book.proofs.Answers.{number-is, sound-answer, stored-hour}
 use denote.Ref.{now}
+use borrow.Author.Tests.{leb-false}
 use Rattle.records.specs.declared.format.Record.the-variants.{Hour}
-use Rattle.records.specs.Hours.{hourOf}
+use Rattle.records.specs.Decoded.{hourOf}
 use Rattle.book.specs.Books.{Sound}
 use Rattle.book.specs.Runs.{hourLength, hoursOf}
+use Rattle.book.proofs.Answers.{number-is, sound-answer, stored-hour}
 use Rattle.book.proofs.HourRuns.{no-area, inside, twelve, hour-entered, hour-accepted, hour-refused, goes-on, stops, ends}
 use Rattle.book.proofs.Book.hours.Statement.{statement}
 use Rattle.book.proofs.Book.hours.Tie as tie
@@ -20,7 +19,7 @@ abbrev μ-loop : tie.MeasureT-loop
 μ-loop s from to self₀ end at₀ self at = end - at
 
 end-of-requires : tie.Need-end-of-requires Inv-loop μ-loop
-end-of-requires c κs = search needs
+end-of-requires c κs = tt
 
 loop-holds : tie.Need-loop-holds Inv-loop μ-loop
 loop-holds c = (refl, c .before .before .pre)
@@ -41,13 +40,13 @@ part-hour-of-end : tie.Need-part-hour-of-end Inv-loop μ-loop
 part-hour-of-end c = inside _ _ _ (c .if1 .taken) (c .before .before .before .end-of .ensures)
 
 hour-of-requires : tie.Need-hour-of-requires Inv-loop μ-loop
-hour-of-requires c κs = search needs
+hour-of-requires c κs = tt
 
 unit-index-requires : tie.Need-unit-index-requires Inv-loop μ-loop
-unit-index-requires c κs = search needs
+unit-index-requires c κs = tt
 
 element-copy-out-area : tie.Need-element-copy-out-area Inv-loop μ-loop
-element-copy-out-area c = search needs
+element-copy-out-area c = omega arith
 
 mul-unit : tie.Need-mul-unit Inv-loop μ-loop
 mul-unit c = omega (arith, c .before .unit-index .ensures .1)
@@ -56,10 +55,10 @@ element-copy-out-unit : tie.Need-element-copy-out-unit Inv-loop μ-loop
 element-copy-out-unit c = c .before .unit-index .ensures .1
 
 asked-of-requires : tie.Need-asked-of-requires Inv-loop μ-loop
-asked-of-requires c κs = search needs
+asked-of-requires c κs = tt
 
 hour-requires : tie.Need-hour-requires Inv-loop μ-loop
-hour-requires c κs = search needs
+hour-requires c κs = tt
 
 returns : tie.Need-returns Inv-loop μ-loop
 returns c =

@@ -1,18 +1,17 @@
-use borrow.Author.Needs.{needs}
-use Rattle.settlement.specs.Lists.{listBelow}
+use Rattle.numbers.specs.Lists.{listBelow}
 use Rattle.book.proofs.Loops.{sound-of}
 use Rattle.book.proofs.Soundness.{empty-sound}
 use Rattle.book.proofs.Book.new.Statement.{statement}
 use Rattle.book.proofs.Book.new.Tie as tie
 
 new-requires : tie.Need-new-requires
-new-requires c κs = search needs
+new-requires c κs = tt
 
 zero-requires : tie.Need-zero-requires
-zero-requires c κs = search needs
+zero-requires c κs = tt
 
 no-hours-requires : tie.Need-no-hours-requires
-no-hours-requires c κs = search needs
+no-hours-requires c κs = tt
 
 returns : tie.Need-returns
 unfolding listBelow

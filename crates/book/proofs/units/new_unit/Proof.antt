@@ -1,9 +1,8 @@
-use borrow.Author.Needs.{needs}
 use Rattle.book.proofs.units.new_unit.Statement.{statement}
 use Rattle.book.proofs.units.new_unit.Tie as tie
 
 no-hours-requires : tie.Need-no-hours-requires
-no-hours-requires c κs = search needs
+no-hours-requires c κs = tt
 
 returns : tie.Need-returns
 returns c = simp (c .no-hours .ensures)

@@ -1,12 +1,11 @@
 use mathlib.Core.Path.{sym}
 use native.Mathlib.Omega.{arith}
-use borrow.Author.Needs.{needs}
 use Rattle.calendar.proofs.DeliveryYears.{from-june, to-may}
 use Rattle.calendar.proofs.delivery_year.calendar_year.Statement.{statement}
 use Rattle.calendar.proofs.delivery_year.calendar_year.Tie as tie
 
 add-result : tie.Need-add-result
-add-result c = search needs
+add-result c = omega arith
 
 returns : tie.Need-returns
 returns c = (sym (from-june _ _ (c .if1 .taken)), omega arith)

@@ -1,13 +1,12 @@
-use borrow.Author.Needs.{needs}
 use Rattle.calendar.specs.DeliveryYear.{isDeliveryDate}
 use Rattle.calendar.proofs.delivery_year.is_delivery_date.Statement.{statement}
 use Rattle.calendar.proofs.delivery_year.is_delivery_date.Tie as tie
 
 calendar-year-requires : tie.Need-calendar-year-requires
-calendar-year-requires c κs = search needs
+calendar-year-requires c κs = tt
 
 is-date-requires : tie.Need-is-date-requires
-is-date-requires c κs = search needs
+is-date-requires c κs = tt
 
 returns : tie.Need-returns
 unfolding isDeliveryDate

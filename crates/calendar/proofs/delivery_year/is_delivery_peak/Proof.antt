@@ -5,10 +5,10 @@ use Rattle.calendar.proofs.delivery_year.is_delivery_peak.Statement.{st
 use Rattle.calendar.proofs.delivery_year.is_delivery_peak.Tie as tie
 
 is-delivery-date-requires : tie.Need-is-delivery-date-requires
-is-delivery-date-requires c κs = search needs
+is-delivery-date-requires c κs = tt
 
 calendar-year-requires : tie.Need-calendar-year-requires
-calendar-year-requires c κs = search needs
+calendar-year-requires c κs = tt
 
 is-peak-requires : tie.Need-is-peak-requires
 is-peak-requires c κs = search needs

@@ -11,7 +11,7 @@ day-of-year-requires : tie.Need-day-of-year-requires
 day-of-year-requires c κs = search needs
 
 add-result : tie.Need-add-result
-add-result c = search needs
+add-result c = omega arith
 
 returns : tie.Need-returns
 unfolding dayNumber

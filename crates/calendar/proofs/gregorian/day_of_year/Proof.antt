@@ -8,7 +8,7 @@ days-before-month-requires : tie.Need-days-before-month-requires
 days-before-month-requires c κs = search needs
 
 add-result : tie.Need-add-result
-add-result c = search needs
+add-result c = omega arith
 
 returns : tie.Need-returns
 unfolding dayOfYear

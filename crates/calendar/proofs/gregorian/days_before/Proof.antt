@@ -1,8 +1,8 @@
 use mathlib.Core.Path.{_≡_, sym}
 use Prim.Native.Nat.{ℕ, _+_, _≤_}
 use native.Mathlib.Omega.{arith}
-use Rattle.calendar.specs.Range.{within}
-use Rattle.calendar.specs.Sum.{sumBelow}
+use Rattle.numbers.specs.Range.{within}
+use Rattle.numbers.specs.Sum.{sumBelow}
 use Rattle.calendar.specs.Gregorian.{monthDays}
 use Rattle.calendar.proofs.Months.{none-before}
 use Rattle.calendar.proofs.gregorian.days_before.Statement.{statement}

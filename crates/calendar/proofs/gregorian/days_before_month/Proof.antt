@@ -11,7 +11,7 @@ days-before-requires : tie.Need-days-before-requires
 days-before-requires c κs = search needs
 
 leap-day-requires : tie.Need-leap-day-requires
-leap-day-requires c κs = search needs
+leap-day-requires c κs = tt
 
 right : (c : tie.After-leap-day)
     → c .before .days-before .result + c .leap-day .result ≡ daysBeforeMonth (c .before .before .args .year) (c .before .before .args .month)

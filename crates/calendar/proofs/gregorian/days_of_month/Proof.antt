@@ -1,12 +1,11 @@
 use mathlib.Core.Path.{sym, _∙_}
-use borrow.Author.Needs.{needs}
 use borrow.Author.Tests.{ne-eqb}
 use Rattle.calendar.specs.Gregorian.{monthDays}
 use Rattle.calendar.proofs.gregorian.days_of_month.Statement.{statement}
 use Rattle.calendar.proofs.gregorian.days_of_month.Tie as tie
 
 leap-year-requires : tie.Need-leap-year-requires
-leap-year-requires c κs = search needs
+leap-year-requires c κs = tt
 
 returns : tie.Need-returns
 unfolding monthDays
@@ -33,7 +32,7 @@ unfolding monthDays
 returns-6 c = simp (c .if6 .taken)
 
 within-requires : tie.Need-within-requires
-within-requires c κs = search needs
+within-requires c κs = tt
 
 returns-7 : tie.Need-returns-7
 unfolding monthDays

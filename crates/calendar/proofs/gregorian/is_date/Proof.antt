@@ -1,13 +1,12 @@
-use borrow.Author.Needs.{needs}
 use Rattle.calendar.specs.Gregorian.{isDate}
 use Rattle.calendar.proofs.gregorian.is_date.Statement.{statement}
 use Rattle.calendar.proofs.gregorian.is_date.Tie as tie
 
 days-of-month-requires : tie.Need-days-of-month-requires
-days-of-month-requires c κs = search needs
+days-of-month-requires c κs = tt
 
 within-requires : tie.Need-within-requires
-within-requires c κs = search needs
+within-requires c κs = tt
 
 returns : tie.Need-returns
 unfolding isDate

@@ -1,6 +1,5 @@
 use mathlib.Core.Bool.{and-false}
 use mathlib.Core.Path.{sym, _∙_}
-use borrow.Author.Needs.{needs}
 use borrow.Author.Tests.{le-ltb, lt-ltb}
 use Rattle.calendar.proofs.gregorian.leap_day.Statement.{statement}
 use Rattle.calendar.proofs.gregorian.leap_day.Tie as tie
@@ -9,7 +8,7 @@ returns : tie.Need-returns
 returns c = simp (le-ltb _ _ (c .if1 .taken), and-false)
 
 leap-year-requires : tie.Need-leap-year-requires
-leap-year-requires c κs = search needs
+leap-year-requires c κs = tt
 
 returns-2 : tie.Need-returns-2
 returns-2 c = simp (sym (c .before .leap-year .ensures) ∙ c .if2 .taken, lt-ltb _ _ (c .before .before .if1 .left))

@@ -1,14 +1,13 @@
 use mathlib.Core.Bool.{and-true, and-false}
 use mathlib.Core.Path.{sym, _∙_}
 use native.Mathlib.Omega.{arith}
-use borrow.Author.Needs.{needs}
 use Rattle.calendar.specs.Peak.{peakHour}
 use Rattle.calendar.proofs.Weeks.{peak-month}
 use Rattle.calendar.proofs.peak.is_peak.Statement.{statement}
 use Rattle.calendar.proofs.peak.is_peak.Tie as tie
 
 in-peak-period-requires : tie.Need-in-peak-period-requires
-in-peak-period-requires c κs = search needs
+in-peak-period-requires c κs = tt
 
 is-peak-day-requires : tie.Need-is-peak-day-requires
 is-peak-day-requires c κs = omega (arith, peak-month _ _ (sym (c .before .in-peak-period .ensures) ∙ c .if1 .taken))

@@ -1,14 +1,13 @@
 use mathlib.Core.Path.{sym, _∙_}
-use borrow.Author.Needs.{needs}
 use Rattle.calendar.specs.Peak.{summerPeak}
 use Rattle.calendar.proofs.peak.is_summer_peak.Statement.{statement}
 use Rattle.calendar.proofs.peak.is_summer_peak.Tie as tie
 
 within-requires : tie.Need-within-requires
-within-requires c κs = search needs
+within-requires c κs = tt
 
 within-requires-2 : tie.Need-within-requires-2
-within-requires-2 c κs = search needs
+within-requires-2 c κs = tt
 
 returns : tie.Need-returns
 unfolding summerPeak

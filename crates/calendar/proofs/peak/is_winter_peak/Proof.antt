@@ -1,21 +1,20 @@
 use mathlib.Core.Path.{sym, _∙_}
-use borrow.Author.Needs.{needs}
 use Rattle.calendar.specs.Peak.{winterPeak}
 use Rattle.calendar.proofs.peak.is_winter_peak.Statement.{statement}
 use Rattle.calendar.proofs.peak.is_winter_peak.Tie as tie
 
 within-requires : tie.Need-within-requires
-within-requires c κs = search needs
+within-requires c κs = tt
 
 within-requires-2 : tie.Need-within-requires-2
-within-requires-2 c κs = search needs
+within-requires-2 c κs = tt
 
 returns : tie.Need-returns
 unfolding winterPeak
 returns c = simp (sym (c .before .before .before .within .ensures) ∙ c .before .before .if1 .taken, sym (c .before .within2 .ensures) ∙ c .if2 .taken)
 
 within-requires-3 : tie.Need-within-requires-3
-within-requires-3 c κs = search needs
+within-requires-3 c κs = tt
 
 returns-2 : tie.Need-returns-2
 unfolding winterPeak

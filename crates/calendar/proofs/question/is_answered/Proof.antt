@@ -1,17 +1,16 @@
 use mathlib.Core.Path.{sym, _∙_}
-use borrow.Author.Needs.{needs}
 use Rattle.calendar.specs.Peak.{isAnswered}
 use Rattle.calendar.proofs.question.is_answered.Statement.{statement}
 use Rattle.calendar.proofs.question.is_answered.Tie as tie
 
 is-date-requires : tie.Need-is-date-requires
-is-date-requires c κs = search needs
+is-date-requires c κs = tt
 
 within-requires : tie.Need-within-requires
-within-requires c κs = search needs
+within-requires c κs = tt
 
 within-requires-2 : tie.Need-within-requires-2
-within-requires-2 c κs = search needs
+within-requires-2 c κs = tt
 
 returns : tie.Need-returns
 unfolding isAnswered

@@ -5,7 +5,7 @@ use Rattle.calendar.proofs.question.peak_hour.Statement.{statement}
 use Rattle.calendar.proofs.question.peak_hour.Tie as tie
 
 is-answered-requires : tie.Need-is-answered-requires
-is-answered-requires c κs = search needs
+is-answered-requires c κs = tt
 
 is-peak-requires : tie.Need-is-peak-requires
 is-peak-requires c κs = search needs

@@ -1,3 +1,4 @@
+use native.Mathlib.Omega.{arith}
 use borrow.Author.Needs.{needs}
 use Rattle.calendar.specs.Week.{firstMonday, thirdMonday}
 use Rattle.calendar.proofs.week.third_monday.Statement.{statement}
@@ -7,13 +8,13 @@ weekday-requires : tie.Need-weekday-requires
 weekday-requires c κs = search needs
 
 sub-result : tie.Need-sub-result
-sub-result c = search needs
+sub-result c = omega arith
 
 add-result : tie.Need-add-result
-add-result c = search needs
+add-result c = omega arith
 
 add-result-2 : tie.Need-add-result-2
-add-result-2 c = search needs
+add-result-2 c = omega arith
 
 returns : tie.Need-returns
 unfolding thirdMonday firstMonday

@@ -8,7 +8,7 @@ day-number-requires : tie.Need-day-number-requires
 day-number-requires c κs = search needs
 
 add-result : tie.Need-add-result
-add-result c = search needs
+add-result c = omega arith
 
 returns : tie.Need-returns
 unfolding weekday

@@ -20,7 +20,7 @@ loop-holds : tie.Need-loop-holds Inv-loop μ-loop
 loop-holds c = (omega arith, omega arith, omega arith, refl, refl)
 
 same-length : tie.Need-same-length Inv-loop μ-loop
-same-length c = search needs
+same-length c = omega arith
 
 returns : tie.Need-returns Inv-loop μ-loop
 returns c =
@@ -28,28 +28,28 @@ returns c =
     (lines-full _ _ (turn .before .args .t3) _ _ (turn .loop .p) (turn .loop .inv .4) (c .if1 .taken), omega arith)
 
 mul-amount : tie.Need-mul-amount Inv-loop μ-loop
-mul-amount c = search needs
+mul-amount c = omega arith
 
 array-copy-out-amount : tie.Need-array-copy-out-amount Inv-loop μ-loop
-array-copy-out-amount c = search needs
+array-copy-out-amount c = omega arith
 
 amount-requires : tie.Need-amount-requires Inv-loop μ-loop
-amount-requires c κs = search needs
+amount-requires c κs = tt
 
 mul-t9 : tie.Need-mul-t9 Inv-loop μ-loop
-mul-t9 c = search needs
+mul-t9 c = omega arith
 
 slice-set-from-lines : tie.Need-slice-set-from-lines Inv-loop μ-loop
-slice-set-from-lines c = search needs
+slice-set-from-lines c = omega arith
 
 add-next : tie.Need-add-next Inv-loop μ-loop
-add-next c = search needs
+add-next c = omega arith
 
 add-p : tie.Need-add-p Inv-loop μ-loop
-add-p c = search needs
+add-p c = omega arith
 
 loop-less : tie.Need-loop-less Inv-loop μ-loop
-loop-less c = search needs
+loop-less c = omega arith
 
 loop-again : tie.Need-loop-again Inv-loop μ-loop
 loop-again c =
@@ -58,7 +58,7 @@ loop-again c =
     (omega arith, omega arith, omega arith, search needs, more)
 
 same-length-2 : tie.Need-same-length-2 Inv-loop μ-loop
-same-length-2 c = search needs
+same-length-2 c = omega arith
 
 returns-2 : tie.Need-returns-2 Inv-loop μ-loop
 returns-2 c =

@@ -1,4 +1,5 @@
 use mathlib.Core.Path.{sym}
+use native.Mathlib.Omega.{arith}
 use lib.Seq.{set-out}
 use borrow.Author.Needs.{needs}
 use Rattle.promise.proofs.log.put_number.Statement.{statement}
@@ -8,10 +9,10 @@ returns : tie.Need-returns
 returns c = sym (set-out _ _ _ (c .if1 .taken))
 
 mul-numbers : tie.Need-mul-numbers
-mul-numbers c = search needs
+mul-numbers c = omega arith
 
 slice-write-numbers : tie.Need-slice-write-numbers
-slice-write-numbers c = search needs
+slice-write-numbers c = omega arith
 
 same-length : tie.Need-same-length
 same-length c = search needs

@@ -1,7 +1,7 @@
 use mathlib.Core.Path.{refl}
 use Prim.Native.Nat.{_-_}
-use lib.ListN.{length}
 use native.Mathlib.Omega.{arith}
+use lib.ListN.{length}
 use borrow.Author.Needs.{needs}
 use Rattle.promise.proofs.Storing.{Going, going-first, going-more, going-book, going-numbers, going-lines}
 use Rattle.promise.proofs.log.run.Statement.{statement}
@@ -14,7 +14,7 @@ abbrev μ-loop : tie.MeasureT-loop
 μ-loop bytes ends numbers₀ lines₀ book₀ from₀ next₀ i₀ numbers lines book from next i = length ends - i
 
 new-requires : tie.Need-new-requires Inv-loop μ-loop
-new-requires c κs = search needs
+new-requires c κs = tt
 
 loop-holds : tie.Need-loop-holds Inv-loop μ-loop
 loop-holds c = going-first _ _ _ _ (c .new .ensures .0) (c .new .ensures .1)
@@ -26,13 +26,13 @@ shared-slice-read-end : tie.Need-shared-slice-read-end Inv-loop μ-loop
 shared-slice-read-end c = omega arith
 
 between-requires : tie.Need-between-requires Inv-loop μ-loop
-between-requires c κs = search needs
+between-requires c κs = tt
 
 enter-requires : tie.Need-enter-requires Inv-loop μ-loop
 enter-requires c κs = c .before .before .before .loop .inv .sound
 
 put-number-requires : tie.Need-put-number-requires Inv-loop μ-loop
-put-number-requires c κs = search needs
+put-number-requires c κs = tt
 
 put-lines-requires : tie.Need-put-lines-requires Inv-loop μ-loop
 put-lines-requires c κs = search needs
@@ -54,10 +54,10 @@ loop-again c =
     (enter .enter .ensures .1) (put-number .put-number .ensures) (c .before .before .put-lines .ensures .0) (c .before .before .put-lines .ensures .1)
 
 same-length : tie.Need-same-length Inv-loop μ-loop
-same-length c = search needs
+same-length c = omega arith
 
 same-length-2 : tie.Need-same-length-2 Inv-loop μ-loop
-same-length-2 c = search needs
+same-length-2 c = omega arith
 
 returns : tie.Need-returns Inv-loop μ-loop
 returns c =

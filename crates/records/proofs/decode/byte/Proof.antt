@@ -1,11 +1,10 @@
 use native.Mathlib.Omega.{arith}
-use borrow.Author.Needs.{needs}
 use Rattle.records.proofs.Numbers.{of-byte}
 use Rattle.records.proofs.decode.byte.Statement.{statement}
 use Rattle.records.proofs.decode.byte.Tie as tie
 
 shared-slice-read-result : tie.Need-shared-slice-read-result
-shared-slice-read-result c = search needs
+shared-slice-read-result c = omega arith
 
 cast-result : tie.Need-cast-result
 cast-result c = omega (arith, c .shared-slice-known .given (c .before .args .from))

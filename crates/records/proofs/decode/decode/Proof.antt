@@ -1,11 +1,10 @@
-use borrow.Author.Needs.{needs}
-use Rattle.settlement.proofs.Tests.{flag}
+use Rattle.numbers.proofs.Tests.{flag}
 use Rattle.records.specs.Decoded.{decoded}
 use Rattle.records.proofs.decode.decode.Statement.{statement}
 use Rattle.records.proofs.decode.decode.Tie as tie
 
 is-broken-requires : tie.Need-is-broken-requires
-is-broken-requires c κs = search needs
+is-broken-requires c κs = tt
 
 returns : tie.Need-returns
 unfolding decoded

@@ -1,8 +1,8 @@
 use mathlib.Core.Path.{refl, sym, _∙_}
 use native.Mathlib.Omega.{arith}
 use borrow.Author.Needs.{needs}
+use Rattle.numbers.proofs.Tests.{not-equal-of}
 use Rattle.records.specs.Decoded.{framed}
-use Rattle.records.proofs.Tests.{not-equal-of}
 use Rattle.records.proofs.Frames.{whole}
 use Rattle.records.proofs.decode.framed.Statement.{statement}
 use Rattle.records.proofs.decode.framed.Tie as tie

@@ -1,13 +1,13 @@
 use mathlib.Core.Path.{ap, sym, _∙_}
-use Rattle.records.proofs.Frames.{hour-framed, no-hour}
 use borrow.Author.Needs.{needs}
 use Rattle.records.specs.Kinds.{ofHour}
-use Rattle.records.specs.Hours.{noHour}
+use Rattle.records.specs.Decoded.{noHour}
+use Rattle.records.proofs.Frames.{hour-framed, no-hour}
 use Rattle.records.proofs.decode.hour_of.Statement.{statement}
 use Rattle.records.proofs.decode.hour_of.Tie as tie
 
 no-hour-requires : tie.Need-no-hour-requires
-no-hour-requires c κs = search needs
+no-hour-requires c κs = tt
 
 returns : tie.Need-returns
 returns c = c .no-hour .ensures ∙ sym (no-hour noHour (λ h. h) _ (λ bytes tag stated. c .before .if1 .taken bytes))
@@ -16,7 +16,7 @@ byte-requires : tie.Need-byte-requires
 byte-requires c κs = search needs
 
 no-hour-requires-2 : tie.Need-no-hour-requires-2
-no-hour-requires-2 c κs = search needs
+no-hour-requires-2 c κs = tt
 
 returns-2 : tie.Need-returns-2
 returns-2 c = c .no-hour2 .ensures ∙ sym (no-hour noHour (λ h. h) _ (λ bytes tag stated. c .before .if2 .taken (c .before .before .byte .ensures .0 ∙ tag)))
@@ -25,7 +25,7 @@ pair-requires : tie.Need-pair-requires
 pair-requires c κs = search needs
 
 no-hour-requires-3 : tie.Need-no-hour-requires-3
-no-hour-requires-3 c κs = search needs
+no-hour-requires-3 c κs = tt
 
 returns-3 : tie.Need-returns-3
 returns-3 c = c .no-hour3 .ensures ∙ sym (no-hour noHour (λ h. h) _ (λ bytes tag stated. c .before .if3 .taken (c .before .before .pair .ensures .0 ∙ stated)))

@@ -1,8 +1,9 @@
 use mathlib.Core.Path.{refl}
+use native.Mathlib.Omega.{arith}
 use borrow.Author.Tests.{lt-ltb, le-ltb}
 use borrow.Author.Needs.{needs}
+use Rattle.numbers.proofs.Tests.{below-of, not-below-of}
 use Rattle.records.specs.Decoded.{isBroken}
-use Rattle.records.proofs.Tests.{below-of, not-below-of}
 use Rattle.records.proofs.decode.is_broken.Statement.{statement}
 use Rattle.records.proofs.decode.is_broken.Tie as tie
 
@@ -22,10 +23,10 @@ returns-2 c =
     )
 
 cast-result : tie.Need-cast-result
-cast-result c = search needs
+cast-result c = omega arith
 
 add-result : tie.Need-add-result
-add-result c = search needs
+add-result c = omega arith
 
 returns-3 : tie.Need-returns-3
 unfolding isBroken

@@ -1,3 +1,4 @@
+use native.Mathlib.Omega.{arith}
 use borrow.Author.Needs.{needs}
 use Rattle.records.proofs.Numbers.{of-pairs}
 use Rattle.records.proofs.decode.quad.Statement.{statement}
@@ -7,16 +8,16 @@ pair-requires : tie.Need-pair-requires
 pair-requires c κs = search needs
 
 mul-result : tie.Need-mul-result
-mul-result c = search needs
+mul-result c = omega arith
 
 add-pair : tie.Need-add-pair
-add-pair c = search needs
+add-pair c = omega arith
 
 pair-requires-2 : tie.Need-pair-requires-2
 pair-requires-2 c κs = search needs
 
 add-result : tie.Need-add-result
-add-result c = search needs
+add-result c = omega arith
 
 returns : tie.Need-returns
 returns c = rw (c .before .pair .ensures .0, c .pair2 .ensures .0) (of-pairs _ _)

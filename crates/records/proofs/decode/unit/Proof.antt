@@ -1,3 +1,4 @@
+use native.Mathlib.Omega.{arith}
 use borrow.Author.Needs.{needs}
 use Rattle.records.specs.Format.{unitFormat}
 use Rattle.records.proofs.Frames.{of-length, not-of-length}
@@ -17,10 +18,10 @@ quad-requires : tie.Need-quad-requires
 quad-requires c κs = search needs
 
 cast-new : tie.Need-cast-new
-cast-new c = search needs
+cast-new c = omega arith
 
 new-requires : tie.Need-new-requires
-new-requires c κs = search needs
+new-requires c κs = tt
 
 quad-requires-2 : tie.Need-quad-requires-2
 quad-requires-2 c κs = search needs

@@ -1,4 +1,4 @@
-use Rattle.records.proofs.FormatLaws.{fields-adjoin, hours-ordered, whole-not-broken, broken-stays, partial-broken}
+use Rattle.records.proofs.FormatLaws.{fields-adjoin, whole-not-broken, broken-stays, partial-broken}
 use Rattle.records.proofs.laws.records.Statement.{statement}
 use Rattle.records.proofs.laws.records.Tie as tie
 
@@ -6,7 +6,6 @@ returns : tie.Need-returns
 returns c =
     record {
       fields-adjoin = fields-adjoin;
-      hours-ordered = hours-ordered;
       whole-not-broken = whole-not-broken;
       broken-stays = broken-stays;
       partial-broken = partial-broken;

@@ -1,9 +1,10 @@
 use mathlib.Core.Path.{refl, ap}
 use Prim.Native.Nat.{ℕ, _+_}
+use native.Mathlib.Omega.{arith}
 use borrow.Author.Tests.{lt-ltb, le-ltb}
 use borrow.Author.Needs.{needs}
+use Rattle.numbers.proofs.Tests.{below-of, not-below-of}
 use Rattle.records.specs.Stream.{nextRecord}
-use Rattle.records.proofs.Tests.{below-of, not-below-of}
 use Rattle.records.proofs.stream.next_record.Statement.{statement}
 use Rattle.records.proofs.stream.next_record.Tie as tie
 
@@ -23,10 +24,10 @@ returns-2 c =
     )
 
 cast-end : tie.Need-cast-end
-cast-end c = search needs
+cast-end c = omega arith
 
 add-end : tie.Need-add-end
-add-end c = search needs
+add-end c = omega arith
 
 returns-3 : tie.Need-returns-3
 unfolding nextRecord

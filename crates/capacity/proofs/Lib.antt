@@ -1,0 +1,5 @@
+pub mod Figures
+pub mod Capacities
+pub mod Bounds
+pub mod Formulas
+pub mod Nets

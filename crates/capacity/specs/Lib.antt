@@ -1,0 +1,5 @@
+pub mod Quantities
+pub mod Shortfall
+pub mod Shares
+pub mod Laws
+pub mod Figures

@@ -1,0 +1,5 @@
+pub mod Quantities
+pub mod AreaMoney
+pub mod Lines
+pub mod Laws
+pub mod Figures

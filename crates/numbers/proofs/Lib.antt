@@ -1,0 +1,11 @@
+pub mod Figures
+pub mod Tests
+pub mod Sums
+pub mod Lists
+pub mod CappedSums
+pub mod Signs
+pub mod SignedSums
+pub mod Splits
+pub mod Sizes
+pub mod Distribution
+pub mod Rows

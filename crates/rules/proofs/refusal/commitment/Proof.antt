@@ -1,0 +1,42 @@
+use borrow.Author.Tests.{eq-eqb, ne-eqb}
+use Rattle.numbers.proofs.Tests.{dropped, kept}
+use Rattle.rules.specs.Refusal.{refusalOf}
+use Rattle.rules.proofs.refusal.commitment.Statement.{statement}
+use Rattle.rules.proofs.refusal.commitment.Tie as tie
+
+returns : tie.Need-returns
+unfolding refusalOf
+returns c = simp (eq-eqb _ _ (c .if1 .taken))
+
+commitment-fits-requires : tie.Need-commitment-fits-requires
+commitment-fits-requires c κs = tt
+
+returns-2 : tie.Need-returns-2
+unfolding refusalOf
+returns-2 c =
+    simp (
+      dropped (c .before .commitment-fits .ensures) (c .if2 .taken),
+      ne-eqb _ _ (c .before .before .if1 .left),
+    )
+
+returns-3 : tie.Need-returns-3
+unfolding refusalOf
+returns-3 c =
+    simp (
+      c .if3 .taken,
+      kept (c .before .before .before .commitment-fits .ensures) (c .before .before .if2 .left),
+      ne-eqb _ _ (c .before .before .before .before .if1 .left),
+    )
+
+returns-4 : tie.Need-returns-4
+unfolding refusalOf
+returns-4 c =
+    simp (
+      c .if3 .left,
+      kept (c .before .before .before .commitment-fits .ensures) (c .before .before .if2 .left),
+      ne-eqb _ _ (c .before .before .before .before .if1 .left),
+    )
+
+pub commitment-spec : {M : Type 1} → statement M
+commitment-spec =
+    tie.close (tie.spec returns commitment-fits-requires returns-2 returns-3 returns-4)

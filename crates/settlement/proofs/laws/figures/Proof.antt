@@ -1,9 +1,0 @@
-use Rattle.settlement.proofs.AllFigures.{figures-given}
-use Rattle.settlement.proofs.laws.figures.Statement.{statement}
-use Rattle.settlement.proofs.laws.figures.Tie as tie
-
-returns : tie.Need-returns
-returns c = figures-given
-
-pub figures-spec : {M : Type 1} → statement M
-figures-spec = tie.close (tie.spec returns)

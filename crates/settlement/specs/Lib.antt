@@ -1,9 +1,0 @@
-pub mod Lists
-pub mod Signed
-pub mod Quantities
-pub mod Capacity
-pub mod Split
-pub mod Shares
-pub mod Money
-pub mod Laws
-pub mod Figures
