@@ -1,4 +1,4 @@
-"""The record format, once, for the tools. docs/RECORDS.md says the same in words; tests/host/tools compares the two."""
+"""The record format, once, for the tools. tests/host/format holds it to crates/records/specs/Format.antt."""
 
 import collections
 import struct

@@ -2,7 +2,7 @@
 
 use crate::fixed::standing_book;
 use crate::random::Random;
-use crate::records::{frame, stream, Record, WORKED_EXAMPLE};
+use crate::records::{frame, past_listed, right_lengths, stream, Record, LONGEST, WORKED_EXAMPLE};
 use crate::sketch::{random_book, Shape};
 
 pub fn bit_flips() -> Vec<Vec<u8>> {
@@ -144,7 +144,7 @@ pub fn garbage(index: usize) -> Vec<u8> {
         _ => small_book(Random::for_stream("before garbage", index)),
     };
     let count = random.pick(&[1, 2, 3, 4, 20, 200, 2_000]);
-    let highest = random.pick(&[1, 8, 33, 255, 255]);
+    let highest = random.pick(&[1, past_listed().into(), LONGEST as u32 + 1, 255, 255]);
     bytes.extend((0..count).map(|_| random.between(0, highest) as u8));
     bytes
 }
@@ -154,12 +154,13 @@ pub fn frames(index: usize) -> Vec<u8> {
     let mut random = Random::for_stream("frames", index);
     let mut bytes = if index % 2 == 0 { stream(&WORKED_EXAMPLE) } else { Vec::new() };
     for _ in 0..random.between(1, 200) {
-        let tag = random.between(0, 9) as u8;
-        let usual = [0, 2, 5, 19, 11, 9, 6, 1][usize::from(tag) % 8];
-        let length = if random.percent(70) { usual } else { random.between(0, 32) as u16 };
+        let tag = random.between(0, u32::from(past_listed()) + 1) as u8;
+        let right = right_lengths(tag);
+        let is_right = !right.is_empty() && random.percent(70);
+        let length = if is_right { random.pick(&right) } else { random.below(LONGEST + 1) };
         let highest = random.pick(&[1, 8, 33, 255]);
         let value: Vec<u8> = (0..length).map(|_| random.between(0, highest) as u8).collect();
-        frame(&mut bytes, tag, length, &value);
+        frame(&mut bytes, tag, length as u16, &value);
     }
     bytes
 }

@@ -3,7 +3,7 @@
 use crate::calendar::{date, days, peak_slots, slot_day, slot_ending, slots, FIRST_YEAR, LAST_YEAR, MONTHS};
 use crate::random::Random;
 use crate::ranges::{fields, Field};
-use crate::records::{frame, stream, Record, Record::*};
+use crate::records::{frame, past_listed, stream, unlisted_tags, Record, Record::*, LONGEST};
 
 pub fn hour(y: u16, unit: u8, slot: u16, kind: u8, derating: u32) -> Record {
     let (month, day) = date(y, slot_day(slot));
@@ -63,10 +63,11 @@ pub fn ends() -> Vec<Vec<u8>> {
     for y in [FIRST_YEAR, 2010, 2098, LAST_YEAR] {
         let book = standing_book(y);
         for record in good_records(y) {
+            let is_year = matches!(record, Year { .. });
             for field in fields(&record, y) {
                 for number in [field.inside(), field.outside()].concat() {
-                    let before = if record.tag() == 0x01 { &[][..] } else { &book };
-                    let after = if record.tag() == 0x01 { stream(&book[1..]) } else { Vec::new() };
+                    let before = if is_year { &[][..] } else { &book };
+                    let after = if is_year { stream(&book[1..]) } else { Vec::new() };
                     let odd = [field.changed(&record, number), after].concat();
                     streams.push(shown(y, before, &odd));
                 }
@@ -112,26 +113,29 @@ pub fn rows() -> Vec<Vec<u8>> {
 fn odd_records(y: u16) -> Vec<Vec<u8>> {
     let mut odd: Vec<Vec<u8>> = odd_values(y).iter().map(|record| stream(&[*record])).collect();
     odd.extend(refused_later(y).iter().flat_map(|record| out_of_range(record, y)));
+    let (unlisted, past) = (unlisted_tags(), past_listed());
+    let (lowest, highest) = (unlisted[0], unlisted[unlisted.len() - 1]);
     for record in good_records(y) {
         let value = record.value();
-        let framed = |tag: u8, length: usize, value: &[u8]| {
+        let [shorter, longer] = record.nearest_wrong_lengths();
+        let mut framed = |tag: u8, value: &[u8]| {
             let mut out = Vec::new();
-            frame(&mut out, tag, length as u16, value);
-            out
+            frame(&mut out, tag, value.len() as u16, value);
+            odd.push(out);
         };
-        odd.push(framed(record.tag(), value.len(), &value));
+        framed(record.tag(), &value);
         // Rows 2 and 3, with a value that would else be good, and with one that would be refused later.
-        odd.push(framed(0x08, value.len(), &value));
-        odd.push(framed(0x00, value.len(), &value));
-        odd.push(framed(record.tag(), value.len() - 1, &value[1..]));
-        odd.push(framed(record.tag(), value.len() + 1, &[&value[..], &[0]].concat()));
-        odd.push(framed(record.tag(), 32, &[0xff; 32]));
-        odd.push(framed(0xff, 32, &[0xff; 32]));
-        odd.push(framed(record.tag(), value.len(), &vec![0xff; value.len()]));
-        odd.push(framed(record.tag(), value.len(), &vec![0; value.len()]));
+        framed(past, &value);
+        framed(lowest, &value);
+        framed(record.tag(), &value[value.len() - shorter..]);
+        framed(record.tag(), &[&value[..], &vec![0; longer - value.len()]].concat());
+        framed(record.tag(), &[0xff; LONGEST]);
+        framed(highest, &[0xff; LONGEST]);
+        framed(record.tag(), &vec![0xff; value.len()]);
+        framed(record.tag(), &vec![0; value.len()]);
         // Row 1 with a listed and an unlisted tag; the value is there in full.
-        odd.push(framed(record.tag(), 33, &[1; 33]));
-        odd.push(framed(0x08, 33, &[1; 33]));
+        framed(record.tag(), &[1; LONGEST + 1]);
+        framed(past, &[1; LONGEST + 1]);
     }
     odd
 }

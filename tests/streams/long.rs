@@ -3,7 +3,7 @@
 use crate::calendar::slots;
 use crate::fixed::{hour, whole_year};
 use crate::random::Random;
-use crate::records::{frame, stream, Record, Record::*, WORKED_EXAMPLE};
+use crate::records::{frame, past_listed, stream, Format, Record, Record::*, FORMATS, HEAD, LONGEST, WORKED_EXAMPLE};
 use crate::sketch::{random_book, Shape};
 
 /// Random books of thousands and tens of thousands of records, with few mistakes.
@@ -40,7 +40,7 @@ pub fn straddles() -> Vec<(usize, Record, usize)> {
     let mut places = Vec::new();
     for boundary in BOUNDARIES {
         for record in straddlers() {
-            let size = record.value().len() + 3;
+            let size = HEAD + record.value().len();
             places.extend((0..=size).map(|before| (boundary, record, before)));
         }
     }
@@ -48,7 +48,7 @@ pub fn straddles() -> Vec<(usize, Record, usize)> {
 }
 
 /// One record of each kind; all but the Year are accepted.
-fn straddlers() -> [Record; 7] {
+pub fn straddlers() -> [Record; FORMATS.len()] {
     [
         Year { y: 2010 },
         Area { area: 1, price: 12_345 },
@@ -65,18 +65,21 @@ pub fn straddle(boundary: usize, record: Record, before: usize) -> Vec<u8> {
     let mut bytes = stream(&WORKED_EXAMPLE[..8]);
     let start = boundary - before;
     let mut slot = 0;
-    // Hours of twelve bytes and loads of nine up to the place, and frames of an unlisted tag for the rest.
-    while start - bytes.len() >= 35 + 12 && slot + 1 < slots(2010) {
+    let most = HEAD + LONGEST;
+    let [hour_size, load_size] = ["Hour", "Load"].map(|name| HEAD + Format::named(name).length());
+    // Hours and then loads up to the place, and frames of an unlisted tag for the rest.
+    while start - bytes.len() >= most + hour_size && slot + 1 < slots(2010) {
         hour(2010, 1, slot, [0, 2, 3, 4][usize::from(slot % 4)], 0).write(&mut bytes);
         slot += 1;
     }
-    while start - bytes.len() >= 35 + 9 {
+    while start - bytes.len() >= most + load_size {
         Load { area: 1, party: 7, obligation: bytes.len() as u32 }.write(&mut bytes);
     }
     let gap = start - bytes.len();
-    let parts = if gap > 35 { vec![gap / 2, gap - gap / 2] } else { vec![gap] };
+    let parts = if gap > most { vec![gap / 2, gap - gap / 2] } else { vec![gap] };
     for part in parts {
-        frame(&mut bytes, 0x55, part as u16 - 3, &vec![0xaa; part - 3]);
+        let length = part - HEAD;
+        frame(&mut bytes, past_listed(), length as u16, &vec![0xaa; length]);
     }
     assert_eq!(bytes.len(), start);
     record.write(&mut bytes);

@@ -2,7 +2,7 @@
 
 use crate::calendar::slots;
 use crate::ranges::fields;
-use crate::records::{frame, Record};
+use crate::records::{frame, past_listed, wrong_lengths, Record};
 use crate::sketch::Sketch;
 
 impl Sketch {
@@ -21,7 +21,7 @@ impl Sketch {
     /// A record that is good but for the Year, one out of range and an odd frame.
     pub fn before_the_year(&mut self) {
         let record = self.any();
-        if record.tag() != 0x01 {
+        if !matches!(record, Record::Year { .. }) {
             record.write(&mut self.out);
         }
         self.out_of_range();
@@ -40,10 +40,11 @@ impl Sketch {
 
     /// An unlisted tag or a wrong length, with as many bytes as the length says.
     fn odd_frame(&mut self) {
-        let length = self.random.between(0, 32) as u16;
-        let tag = if self.random.percent(50) { self.random.between(0, 8) as u8 } else { self.random.byte() };
-        let value = self.random.bytes(usize::from(length));
-        frame(&mut self.out, tag, length, &value);
+        let highest = if self.random.percent(50) { past_listed() } else { u8::MAX };
+        let tag = self.random.between(0, highest.into()) as u8;
+        let length = self.random.pick(&wrong_lengths(tag));
+        let value = self.random.bytes(length);
+        frame(&mut self.out, tag, length as u16, &value);
     }
 
     /// A good record that names an area or a unit which is not entered.
@@ -118,7 +119,7 @@ impl Sketch {
             value[at] = self.random.pick(&[0, 9, 17, 33, 65, 255]);
         }
         if self.random.percent(20) {
-            value.push(0);
+            value.resize(record.nearest_wrong_lengths()[1], 0);
         }
         frame(&mut self.out, record.tag(), value.len() as u16, &value);
     }

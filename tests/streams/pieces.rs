@@ -2,7 +2,7 @@
 
 use crate::process::Delivery;
 use crate::random::Random;
-use crate::records::{frame, stream, Record, WORKED_EXAMPLE};
+use crate::records::{frame, past_listed, stream, Format, Record, LONGEST, WORKED_EXAMPLE};
 use crate::sketch::{random_book, Shape};
 use crate::streams::Family;
 use crate::{compare, damaged, fixed, long};
@@ -43,8 +43,8 @@ fn varied() -> Vec<Vec<u8>> {
     streams.extend(broken_records().map(|broken| [&example[..], &broken[..], &example[..]].concat()));
     // Longer than 64 KB; the second lays a unit across the end of a buffer of that size.
     streams.push(fixed::peaks(3));
-    let (boundary, record, before) = long::straddles()[360];
-    streams.push(long::straddle(boundary, record, before));
+    let unit = long::straddlers().into_iter().find(|record| matches!(record, Record::Unit { .. })).expect("a unit");
+    streams.push(long::straddle(65_536, unit, 21));
     for index in 0..24 {
         let random = Random::for_stream("in pieces", index);
         streams.push(random_book(random, &Shape { mistakes: index, ..Shape::USUAL }));
@@ -57,9 +57,11 @@ fn varied() -> Vec<Vec<u8>> {
 
 /// Heads with a length above 32, of listed and unlisted tags.
 fn broken_records() -> [Vec<u8>; 3] {
-    [(0x07, 33), (0x05, 0x0109), (0xee, 65_535)].map(|(tag, length)| {
+    let (post, hour) = (Format::named("Post"), Format::named("Hour"));
+    let heads = [(post.tag, LONGEST + 1), (hour.tag, 0x0100 + hour.length()), (past_listed(), 65_535)];
+    heads.map(|(tag, length)| {
         let mut out = Vec::new();
-        frame(&mut out, tag, length, &[]);
+        frame(&mut out, tag, length as u16, &[]);
         out
     })
 }

@@ -1,7 +1,7 @@
 //! The ranges of the paper's table, so that a field can be put at its ends and past them.
 
 use crate::calendar::{calendar_year, days, month_length};
-use crate::records::{frame, Record};
+use crate::records::{frame, FieldFormat, Record};
 
 /// Where a number stands in a record's value, and its range.
 #[derive(Clone, Copy)]
@@ -12,48 +12,31 @@ pub struct Field {
     high: u32,
 }
 
-const AREA: (u32, u32) = (1, 8);
-const UNIT: (u32, u32) = (1, 32);
-const PARTY: (u32, u32) = (1, 16);
-const RATE: (u32, u32) = (0, 99_999);
-
 /// The fields of a record in delivery year `y`; where a range hangs on another field, that field is right.
 pub fn fields(record: &Record, y: u16) -> Vec<Field> {
-    match *record {
-        Record::Year { .. } => layout(&[(2, (2007, 2099))]),
-        Record::Area { .. } => layout(&[(1, AREA), (4, (0, 50_000))]),
-        Record::Unit { .. } => {
-            layout(&[(1, UNIT), (1, AREA), (4, (1, 5_000_000)), (4, RATE), (4, RATE), (4, RATE), (1, (0, 2))])
-        }
-        Record::Commitment { first, last, .. } => layout(&[
-            (1, (1, 64)),
-            (1, UNIT),
-            (1, PARTY),
-            (2, (0, u32::from(last))),
-            (2, (u32::from(first), u32::from(days(y)) - 1)),
-            (4, (0, 5_000_000)),
-        ]),
-        Record::Hour { month, kind, .. } => layout(&[
-            (1, UNIT),
-            (1, (1, 12)),
-            (1, (1, u32::from(month_length(calendar_year(y, month), month)))),
-            (1, (1, 24)),
-            (1, (0, 5)),
-            (4, if kind == 1 { (1, u32::MAX) } else { (0, 0) }),
-        ]),
-        Record::Load { .. } => layout(&[(1, AREA), (1, PARTY), (4, (0, 100_000_000))]),
-        Record::Post { .. } => layout(&[(1, AREA)]),
-    }
-}
-
-fn layout(widths: &[(usize, (u32, u32))]) -> Vec<Field> {
+    let mut ruled = ruled_ranges(record, y).into_iter();
     let mut offset = 0;
     let mut fields = Vec::new();
-    for &(width, (low, high)) in widths {
+    for &FieldFormat { width, range } in record.format().fields {
+        let (low, high) = range.or_else(|| ruled.next()).expect("a range for each field");
         fields.push(Field { offset, width, low, high });
         offset += width;
     }
+    assert!(ruled.next().is_none(), "a field for each range");
     fields
+}
+
+/// The ranges that hang on other fields or on the year, in the order of their fields.
+fn ruled_ranges(record: &Record, y: u16) -> Vec<(u32, u32)> {
+    match *record {
+        Record::Commitment { first, last, .. } => vec![(0, last.into()), (first.into(), u32::from(days(y)) - 1)],
+        Record::Hour { month, kind, .. } => vec![
+            (1, 12),
+            (1, month_length(calendar_year(y, month), month).into()),
+            if kind == 1 { (1, u32::MAX) } else { (0, 0) },
+        ],
+        _ => Vec::new(),
+    }
 }
 
 impl Field {

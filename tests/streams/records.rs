@@ -1,6 +1,85 @@
-//! The seven records of the paper's table, written as bytes.
+//! The records of the paper's table, written as bytes.
 
 use Record::*;
+
+/// The bytes of tag and length.
+pub const HEAD: usize = 3;
+
+/// The longest value of a frame that is not broken.
+pub const LONGEST: usize = 32;
+
+/// A field's bytes, and its range where that hangs on nothing but the field.
+pub struct FieldFormat {
+    pub width: usize,
+    pub range: Option<(u32, u32)>,
+}
+
+/// The fields of a value stand one behind the other.
+pub struct Format {
+    name: &'static str,
+    pub tag: u8,
+    pub fields: &'static [FieldFormat],
+}
+
+const fn field(width: usize, low: u32, high: u32) -> FieldFormat {
+    FieldFormat { width, range: Some((low, high)) }
+}
+
+/// The range hangs on other fields or on the year.
+const fn ruled(width: usize) -> FieldFormat {
+    FieldFormat { width, range: None }
+}
+
+const AREA: FieldFormat = field(1, 1, 8);
+const UNIT: FieldFormat = field(1, 1, 32);
+const PARTY: FieldFormat = field(1, 1, 16);
+const RATE: FieldFormat = field(4, 0, 99_999);
+
+/// The paper's table. `tests/host/format` reads it from this file.
+pub const FORMATS: [Format; 7] = [
+    Format { name: "Year", tag: 0x01, fields: &[field(2, 2007, 2099)] },
+    Format { name: "Area", tag: 0x02, fields: &[AREA, field(4, 0, 50_000)] },
+    Format { name: "Unit", tag: 0x03, fields: &[UNIT, AREA, field(4, 1, 5_000_000), RATE, RATE, RATE, field(1, 0, 2)] },
+    Format {
+        name: "Commitment",
+        tag: 0x04,
+        fields: &[field(1, 1, 64), UNIT, PARTY, ruled(2), ruled(2), field(4, 0, 5_000_000)],
+    },
+    Format { name: "Hour", tag: 0x05, fields: &[UNIT, ruled(1), ruled(1), field(1, 1, 24), field(1, 0, 5), ruled(4)] },
+    Format { name: "Load", tag: 0x06, fields: &[AREA, PARTY, field(4, 0, 100_000_000)] },
+    Format { name: "Post", tag: 0x07, fields: &[AREA] },
+];
+
+impl Format {
+    pub fn named(name: &str) -> &'static Format {
+        FORMATS.iter().find(|format| format.name == name).expect("a name of the table")
+    }
+
+    pub fn length(&self) -> usize {
+        self.fields.iter().map(|field| field.width).sum()
+    }
+}
+
+/// The lengths that the table gives for a tag: none if it is not listed.
+pub fn right_lengths(tag: u8) -> Vec<usize> {
+    FORMATS.iter().filter(|format| format.tag == tag).map(Format::length).collect()
+}
+
+/// The lengths of whole frames that the table does not give for a tag, ascending.
+pub fn wrong_lengths(tag: u8) -> Vec<usize> {
+    let right = right_lengths(tag);
+    (0..=LONGEST).filter(|length| !right.contains(length)).collect()
+}
+
+/// The tags that are not listed, ascending.
+pub fn unlisted_tags() -> Vec<u8> {
+    (0..=u8::MAX).filter(|&tag| right_lengths(tag).is_empty()).collect()
+}
+
+/// The first tag past all that are listed.
+pub fn past_listed() -> u8 {
+    FORMATS.iter().map(|format| format.tag + 1).max().expect("the table has rows")
+}
 
 /// The fields of a record, in the order of the table; `icap` is I. Nothing is checked here.
 #[derive(Clone, Copy, Debug, PartialEq)]
@@ -15,39 +94,49 @@ pub enum Record {
 }
 
 impl Record {
-    pub fn tag(&self) -> u8 {
-        match self {
-            Year { .. } => 0x01,
-            Area { .. } => 0x02,
-            Unit { .. } => 0x03,
-            Commitment { .. } => 0x04,
-            Hour { .. } => 0x05,
-            Load { .. } => 0x06,
-            Post { .. } => 0x07,
+    /// Its name in the table, and the numbers of its fields in their order.
+    fn parts(&self) -> (&'static str, Vec<u32>) {
+        match *self {
+            Year { y } => ("Year", vec![y.into()]),
+            Area { area, price } => ("Area", vec![area.into(), price]),
+            Unit { unit, area, icap, e, f, g, class } => {
+                ("Unit", vec![unit.into(), area.into(), icap, e, f, g, class.into()])
+            }
+            Commitment { number, unit, party, first, last, watts } => {
+                ("Commitment", vec![number.into(), unit.into(), party.into(), first.into(), last.into(), watts])
+            }
+            Hour { unit, month, day, ending, kind, derating } => {
+                ("Hour", vec![unit.into(), month.into(), day.into(), ending.into(), kind.into(), derating])
+            }
+            Load { area, party, obligation } => ("Load", vec![area.into(), party.into(), obligation]),
+            Post { area } => ("Post", vec![area.into()]),
         }
     }
 
+    pub fn format(&self) -> &'static Format {
+        Format::named(self.parts().0)
+    }
+
+    pub fn tag(&self) -> u8 {
+        self.format().tag
+    }
+
     pub fn value(&self) -> Vec<u8> {
-        match *self {
-            Year { y } => y.to_be_bytes().to_vec(),
-            Area { area, price } => join(&[&[area], &price.to_be_bytes()]),
-            Unit { unit, area, icap, e, f, g, class } => join(&[
-                &[unit, area],
-                &icap.to_be_bytes(),
-                &e.to_be_bytes(),
-                &f.to_be_bytes(),
-                &g.to_be_bytes(),
-                &[class],
-            ]),
-            Commitment { number, unit, party, first, last, watts } => {
-                join(&[&[number, unit, party], &first.to_be_bytes(), &last.to_be_bytes(), &watts.to_be_bytes()])
-            }
-            Hour { unit, month, day, ending, kind, derating } => {
-                join(&[&[unit, month, day, ending, kind], &derating.to_be_bytes()])
-            }
-            Load { area, party, obligation } => join(&[&[area, party], &obligation.to_be_bytes()]),
-            Post { area } => vec![area],
+        let (name, numbers) = self.parts();
+        let fields = Format::named(name).fields;
+        assert_eq!(numbers.len(), fields.len(), "the fields of {name}");
+        let mut value = Vec::new();
+        for (number, field) in numbers.into_iter().zip(fields) {
+            value.extend(&number.to_be_bytes()[4 - field.width..]);
         }
+        value
+    }
+
+    /// The nearest wrong lengths below and above its own.
+    pub fn nearest_wrong_lengths(&self) -> [usize; 2] {
+        let wrong = wrong_lengths(self.tag());
+        let above = wrong.partition_point(|&length| length < self.format().length());
+        [wrong[above - 1], wrong[above]]
     }
 
     pub fn write(&self, out: &mut Vec<u8>) {
@@ -69,10 +158,6 @@ pub fn stream(records: &[Record]) -> Vec<u8> {
         record.write(&mut out);
     }
     out
-}
-
-fn join(parts: &[&[u8]]) -> Vec<u8> {
-    parts.concat()
 }
 
 /// The input of the paper's worked example.
