@@ -1,4 +1,4 @@
-pub mod Figures
+pub mod AllFigures
 pub mod Capacities
 pub mod Bounds
 pub mod Formulas

@@ -1,4 +1,4 @@
-pub mod Figures
+pub mod AllFigures
 pub mod Balance
 pub mod Bounds
 pub mod Dues

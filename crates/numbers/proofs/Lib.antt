@@ -1,4 +1,4 @@
-pub mod Figures
+pub mod AllFigures
 pub mod Tests
 pub mod Sums
 pub mod Lists

@@ -7,15 +7,15 @@ use Rattle.numbers.specs.Rows.{EachGiven}
 use Rattle.numbers.specs.Lists.{listBelow}
 use Rattle.numbers.specs.Figures.{splitRows}
 use Rattle.numbers.proofs.Rows.{each-renamed}
-use Rattle.numbers.proofs.Figures.{split-figures}
+use Rattle.numbers.proofs.AllFigures.{split-figures}
 use Rattle.calendar.specs.Gregorian.{leapYear}
 use Rattle.calendar.specs.DeliveryYear.{deliveryDays}
 use Rattle.calendar.specs.Figures.{peakRows}
 use Rattle.calendar.proofs.Figures.{peak-figures}
 use Rattle.capacity.specs.Figures.{capacityRows}
-use Rattle.capacity.proofs.Figures.{capacity-figures}
+use Rattle.capacity.proofs.AllFigures.{capacity-figures}
 use Rattle.money.specs.Figures.{creditRows}
-use Rattle.money.proofs.Figures.{credit-figures}
+use Rattle.money.proofs.AllFigures.{credit-figures}
 use Rattle.records.specs.Format.{numberAt}
 use Rattle.records.specs.declared.format.Record.{Record}
 use Rattle.records.specs.declared.format.Record.the-variants.{Year, Area, Unit, Commitment, Load, Post}

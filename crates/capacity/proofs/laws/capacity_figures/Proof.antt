@@ -1,4 +1,4 @@
-use Rattle.capacity.proofs.Figures.{capacity-figures}
+use Rattle.capacity.proofs.AllFigures.{capacity-figures}
 use Rattle.capacity.proofs.laws.capacity_figures.Statement.{statement}
 use Rattle.capacity.proofs.laws.capacity_figures.Tie as tie
 

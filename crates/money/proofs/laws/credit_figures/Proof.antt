@@ -1,4 +1,4 @@
-use Rattle.money.proofs.Figures.{credit-figures}
+use Rattle.money.proofs.AllFigures.{credit-figures}
 use Rattle.money.proofs.laws.credit_figures.Statement.{statement}
 use Rattle.money.proofs.laws.credit_figures.Tie as tie
 

@@ -1,4 +1,4 @@
-use Rattle.numbers.proofs.Figures.{split-figures}
+use Rattle.numbers.proofs.AllFigures.{split-figures}
 use Rattle.numbers.proofs.laws.split_figures.Statement.{statement}
 use Rattle.numbers.proofs.laws.split_figures.Tie as tie
 
