@@ -1,4 +1,5 @@
 // Capacity: from a set to its limited shortfall, and a unit's shares of it.
+#![tactic(auto)]
 ghost use Rattle.std.specs.Prelude.{◌≡◌};
 ghost use Rattle.capacity.specs.Quantities.{installed_watts};
 

@@ -1,4 +1,5 @@
 // The ledger program: records from standard input are entered into a book, and the answers go to standard output.
+#![tactic(auto)]
 ghost use Rattle.std.specs.Prelude.{◌≡◌, ◌+◌, ◌-◌, ◌^◌, ◌≤◌, ◌<◌, length, take, drop};
 ghost use Rattle.report.specs.Passes.{Ready, room, state_of, ended, closed};
 ghost use Rattle.report.specs.Printed.{pair_most};

@@ -1,6 +1,6 @@
 -- Laws of the split.
 use mathlib.Core.Path.{◌≡◌, refl, sym, ◌∙◌}
-use Prim.Native.Nat.{ℕ, zero, suc, ◌+◌, ◌*◌, ◌/◌, ◌≤◌, ◌<◌, min, zero-le, ◌-◌}
+use Prim.Native.Nat.{ℕ, zero, suc, ◌+◌, ◌*◌, ◌/◌, ◌≤◌, ◌<◌, min, zero-le}
 use native.Mathlib.Nat.{le_refl, le_trans, mul_comm, mul-zero, zero-mul, mul-add, mul-le-mul_left, div-zero, zero-div, div-mul-le_self, le-div_iff_mul-le}
 use native.Mathlib.Nat.{div-le_of_le-mul, mul-div_cancel, add-mul-div_right}
 use native.Mathlib.Numerals.{add-one}

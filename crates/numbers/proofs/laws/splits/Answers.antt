@@ -1,8 +1,7 @@
 use Rattle.numbers.proofs.Splits.{shares_add_up, share_at_most, no_weights, signed_shares_add_up, shortfall_shares, excess_shares}
-use Rattle.numbers.proofs.laws.splits.Statement.{statement}
-use Rattle.numbers.proofs.laws.splits.Tie as tie
+use Rattle.numbers.proofs.laws.splits.Goals as goal
 
-returns : tie.Need-returns
+pub returns : goal.returns
 returns c =
     record {
       shares_add_up = shares_add_up;
@@ -12,6 +11,3 @@ returns c =
       shortfall_shares = shortfall_shares;
       excess_shares = excess_shares;
     }
-
-pub splits_spec : {M : Type 1} → statement M
-splits_spec = tie.close (tie.spec returns)

@@ -1,0 +1,13 @@
+use mathlib.Core.Path.{sym, ◌∙◌}
+use Rattle.numbers.proofs.Distribution.{shares_found, answer_shares, answer_none}
+use Rattle.numbers.proofs.split.split.Goals as goal
+
+pub returns-then-has_shares : goal.returns-then-has_shares
+returns-then-has_shares c = c.distribute.ensures ∙ sym (answer_shares _ _ _ (shares_found _ _ c.capped_sum-z.ensures (sym c.has_shares.ensures ∙ c.if-has_shares.true)).3)
+
+pub returns : goal.returns
+returns c =
+    c.clear.ensures
+    ∙ answer_none _ c.args.weights.now _
+    c.capped_sum-z.ensures
+    (sym c.has_shares.ensures ∙ c.if-has_shares.false)
