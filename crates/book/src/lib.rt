@@ -17,7 +17,7 @@ use rules::indices::{area_named, number_index, party_index, unit_index, unit_nam
 use rules::refusal::{asked_of, hour, refusal};
 
 // A unit: its record, and what its accepted hours come to.
-#[derive(Drop)]
+#[derive(Clone, Copy)]
 pub struct Unit {
     entry: UnitRecord,
     hours: HourCounts,

@@ -1,5 +1,6 @@
 // Capacity: from a set to its limited shortfall, and a unit's shares of it.
 #![tactic(auto)]
+
 ghost use Rattle.std.specs.Prelude.{◌≡◌};
 ghost use Rattle.capacity.specs.Quantities.{installed_watts};
 
@@ -7,11 +8,11 @@ ghost use Rattle.capacity.specs.Quantities.{installed_watts};
 // alone, and tests/host/quantities lists the functions that may call those.
 
 // Installed capacity (ICAP): I and T.
-#[derive(Drop)]
+#[derive(Clone, Copy)]
 pub struct InstalledWatts(u64);
 
 // Unforced capacity (UCAP): U, X, G, P and the limit; a shortfall, which below zero is an excess; shares and nets of it.
-#[derive(Drop)]
+#[derive(Clone, Copy)]
 pub struct UnforcedWatts(i64);
 
 impl InstalledWatts {

@@ -6,7 +6,7 @@ use crate::InstalledWatts;
 use numbers::range::within;
 
 // A set's rating, as its Unit record states it.
-#[derive(Drop)]
+#[derive(Clone, Copy)]
 pub struct Rating {
     // I, installed capacity (ICAP).
     pub installed: InstalledWatts,
@@ -18,7 +18,7 @@ pub struct Rating {
 }
 
 // What a unit's accepted peak hours come to.
-#[derive(Drop)]
+#[derive(Clone, Copy)]
 pub struct HourCounts {
     // SH, in service.
     pub service: u64,

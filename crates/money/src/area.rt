@@ -19,7 +19,7 @@ use numbers::split::{capped_add, capped_sum, split_by_party};
 
 // What an area's nets, price and obligations come to: whether money is left over that no obligation takes, which is
 // refusal 11, and each party's due.
-#[derive(Drop)]
+#[derive(Clone, Copy)]
 pub struct AreaMoney {
     pub undistributed: bool,
     pub dues: [Cents; 16],

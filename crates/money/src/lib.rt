@@ -4,7 +4,7 @@ ghost use Rattle.std.specs.Prelude.{◌≡◌, pos};
 ghost use Rattle.money.specs.Quantities.{cents};
 
 // Money, with a private number. Below zero a party pays.
-#[derive(Drop)]
+#[derive(Clone, Copy)]
 pub struct Cents(i64);
 
 impl Cents {

@@ -16,21 +16,21 @@ pub(crate) const LOAD_BYTES: usize = 9;
 
 pub(crate) const POST_BYTES: usize = 4;
 
-#[derive(Drop)]
+#[derive(Clone, Copy)]
 pub struct AreaRecord {
     pub area: u32,
     // In cents per MW-day.
     pub price: u32,
 }
 
-#[derive(Drop)]
+#[derive(Clone, Copy)]
 pub struct UnitRecord {
     pub unit: u32,
     pub area: u32,
     pub rating: Rating,
 }
 
-#[derive(Drop)]
+#[derive(Clone, Copy)]
 pub struct CommitmentRecord {
     pub number: u32,
     pub unit: u32,
@@ -41,7 +41,7 @@ pub struct CommitmentRecord {
     pub watts: u32,
 }
 
-#[derive(Drop)]
+#[derive(Clone, Copy)]
 pub struct HourRecord {
     pub unit: u32,
     pub month: u32,
@@ -53,7 +53,7 @@ pub struct HourRecord {
     pub derating: u32,
 }
 
-#[derive(Drop)]
+#[derive(Clone, Copy)]
 pub struct LoadRecord {
     pub area: u32,
     pub party: u32,
@@ -62,7 +62,7 @@ pub struct LoadRecord {
 }
 
 // What the frame refuses: rows 1, 2 and 3.
-#[derive(Drop)]
+#[derive(Clone, Copy)]
 pub enum Fault {
     Broken,
     UnknownTag,
@@ -70,7 +70,7 @@ pub enum Fault {
 }
 
 // A string of bytes, decoded: its fault, or the values of its kind, in range or not.
-#[derive(Drop)]
+#[derive(Clone, Copy)]
 pub enum Record {
     Unframed(Fault),
     // The year.

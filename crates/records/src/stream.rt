@@ -4,7 +4,7 @@ ghost use Rattle.records.specs.Stream.{next_record};
 
 use crate::decode::pair;
 
-#[derive(Drop)]
+#[derive(Clone, Copy)]
 pub enum Next {
     // A whole record: where it ends.
     Whole(usize),

@@ -22,7 +22,7 @@ pub struct Tally {
 }
 
 // Why a pass over a buffer stopped.
-#[derive(Drop)]
+#[derive(Clone, Copy)]
 pub enum Stop {
     // There is no room for another answer.
     Full,

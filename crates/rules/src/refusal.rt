@@ -16,7 +16,7 @@ use records::format::{
 };
 
 // What the rows ask, of the area and the unit that a record names.
-#[derive(Drop)]
+#[derive(Clone, Copy)]
 pub struct Asked {
     // 0 before a year is entered.
     pub year: u32,

@@ -1,0 +1,7 @@
+use mathlib.Core.Path.{refl}
+use Rattle.numbers.specs.Lists.{list_below}
+use Rattle.capacity.proofs.shares.no_nets.Goals as goal
+
+pub returns : goal.returns
+unfolding list_below
+returns c = refl
