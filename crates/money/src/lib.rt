@@ -1,5 +1,6 @@
 // Area money: from the parties' nets to their dues, and the lines of a post.
 #![tactic(auto)]
+
 ghost use Rattle.std.specs.Prelude.{◌≡◌, pos};
 ghost use Rattle.money.specs.Quantities.{cents};
 

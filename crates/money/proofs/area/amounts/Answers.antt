@@ -1,0 +1,13 @@
+use mathlib.Core.Path.{refl}
+use Prim.Native.Nat.{◌-◌}
+use native.Mathlib.Omega.{arith}
+use Rattle.numbers.specs.Signed.{above}
+use Rattle.numbers.proofs.Lists.{Filled, filled_none, filled_more, filled_all}
+use Rattle.money.specs.Quantities.{cents_of}
+use Rattle.money.proofs.area.amounts.Goals as goal
+
+pub loop-p-init : goal.loop-p-init
+loop-p-init c = filled_none refl
+
+pub loop-p-preserved : goal.loop-p-preserved
+loop-p-preserved c = filled_more c.loop-p.invariant (omega arith) c.cents_above.ensures.0

@@ -1,0 +1,17 @@
+use mathlib.Core.Path.{refl}
+use Prim.Native.Nat.{◌-◌}
+use native.Mathlib.Omega.{arith}
+use lib.IntN.{pos}
+use Rattle.numbers.specs.Signed.{below}
+use Rattle.numbers.proofs.Sums.{sum_term}
+use Rattle.numbers.proofs.Lists.{Filled, filled_none, filled_more, filled_all}
+use Rattle.capacity.specs.Quantities.{watts_of}
+use Rattle.money.specs.Quantities.{cents}
+use Rattle.money.specs.AreaMoney.{ceiling}
+use Rattle.money.proofs.area.ceilings.Given as goal
+
+abbrev pub invariant-loop-p : goal.invariant-loop-p
+invariant-loop-p l = Filled 16 (λ k. cents (pos (ceiling (watts_of l.nets) l.price l.days k))) l.ceilings l.p
+
+abbrev pub decreases-loop-p : goal.decreases-loop-p
+decreases-loop-p l = 16 - l.p

@@ -1,0 +1,12 @@
+use Prim.Native.Nat.{◌-◌}
+use native.Mathlib.Omega.{arith}
+use Rattle.numbers.specs.Signed.{above}
+use Rattle.numbers.proofs.CappedSums.{Capped, capped_none, capped_more, capped_all}
+use Rattle.capacity.specs.Quantities.{watts_of}
+use Rattle.money.proofs.area.shortfalls.Given as goal
+
+abbrev pub invariant-loop-p : goal.invariant-loop-p
+invariant-loop-p l = Capped 16 (λ k. above (watts_of l.nets k)) l.sum l.p
+
+abbrev pub decreases-loop-p : goal.decreases-loop-p
+decreases-loop-p l = 16 - l.p
