@@ -1,6 +1,7 @@
 // The calendar of the peak-hour availability book: dates, delivery years, holidays and peak hours.
 // Document 01, Records and Hours; source document 002 (b). Each result is equated with its definition in specs/.
 #![tactic(auto)]
+
 pub mod delivery_year;
 mod gregorian;
 pub mod laws;

@@ -1,9 +1,6 @@
 use mathlib.Core.Path.{refl}
-use Prim.Native.Nat.{◌-◌}
 use native.Mathlib.Omega.{arith}
-use Rattle.numbers.specs.Signed.{above}
-use Rattle.numbers.proofs.Lists.{Filled, filled_none, filled_more, filled_all}
-use Rattle.money.specs.Quantities.{cents_of}
+use Rattle.numbers.proofs.Lists.{filled_none, filled_more}
 use Rattle.money.proofs.area.amounts.Goals as goal
 
 pub loop-p-init : goal.loop-p-init

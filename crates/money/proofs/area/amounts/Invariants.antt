@@ -1,8 +1,6 @@
-use mathlib.Core.Path.{refl}
 use Prim.Native.Nat.{◌-◌}
-use native.Mathlib.Omega.{arith}
 use Rattle.numbers.specs.Signed.{above}
-use Rattle.numbers.proofs.Lists.{Filled, filled_none, filled_more, filled_all}
+use Rattle.numbers.proofs.Lists.{Filled}
 use Rattle.money.specs.Quantities.{cents_of}
 use Rattle.money.proofs.area.amounts.Given as goal
 

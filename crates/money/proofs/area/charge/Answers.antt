@@ -1,7 +1,5 @@
 use mathlib.Core.Path.{◌∙◌}
-use native.Mathlib.Omega.{arith}
 use Rattle.money.specs.AreaMoney.{priced}
-use Rattle.money.proofs.Bounds.{PricedFits, priced_fits}
 use Rattle.money.proofs.area.charge.Goals as goal
 
 pub returns : goal.returns

@@ -1,12 +1,9 @@
 use mathlib.Core.Path.{refl}
-use Prim.Native.Nat.{◌-◌}
 use native.Mathlib.Omega.{arith}
-use lib.IntN.{pos}
 use Rattle.numbers.specs.Signed.{above}
 use Rattle.numbers.proofs.Sums.{sum_term}
-use Rattle.numbers.proofs.Lists.{Filled, filled_none, filled_more, filled_all}
+use Rattle.numbers.proofs.Lists.{filled_none, filled_more}
 use Rattle.capacity.specs.Quantities.{watts_of}
-use Rattle.money.specs.Quantities.{cents}
 use Rattle.money.specs.AreaMoney.{charge}
 use Rattle.money.proofs.area.charges.Goals as goal
 
@@ -14,12 +11,11 @@ pub loop-p-init : goal.loop-p-init
 loop-p-init c = filled_none refl
 
 pub charge-requires : goal.charge-requires
-charge-requires c =
-    (
-      omega (arith, sum_term c.loop-p.p 16 (λ k. above (watts_of c.args.nets k)) c.loop-p-test.true),
-      c.requires.1,
-      c.requires.2,
-    )
+charge-requires c = (
+  omega (arith, sum_term c.loop-p.p 16 (λ k. above (watts_of c.args.nets k)) c.loop-p-test.true),
+  c.requires.1,
+  c.requires.2,
+)
 
 pub loop-p-preserved : goal.loop-p-preserved
 unfolding charge

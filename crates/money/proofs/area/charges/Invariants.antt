@@ -1,10 +1,6 @@
-use mathlib.Core.Path.{refl}
 use Prim.Native.Nat.{◌-◌}
-use native.Mathlib.Omega.{arith}
 use lib.IntN.{pos}
-use Rattle.numbers.specs.Signed.{above}
-use Rattle.numbers.proofs.Sums.{sum_term}
-use Rattle.numbers.proofs.Lists.{Filled, filled_none, filled_more, filled_all}
+use Rattle.numbers.proofs.Lists.{Filled}
 use Rattle.capacity.specs.Quantities.{watts_of}
 use Rattle.money.specs.Quantities.{cents}
 use Rattle.money.specs.AreaMoney.{charge}

@@ -1,11 +1,9 @@
 use mathlib.Core.Path.{refl}
-use Prim.Native.Nat.{◌+◌, ◌-◌}
 use native.Mathlib.Omega.{arith}
-use lib.IntN.{sub_ℕ}
 use Rattle.numbers.specs.Signed.{above}
 use Rattle.numbers.proofs.Sums.{sum_term}
-use Rattle.numbers.proofs.Lists.{Filled, filled_none, filled_more, filled_all}
-use Rattle.money.specs.Quantities.{cents, cents_of}
+use Rattle.numbers.proofs.Lists.{filled_none, filled_more}
+use Rattle.money.specs.Quantities.{cents_of}
 use Rattle.money.proofs.area.dues.Goals as goal
 
 pub loop-p-init : goal.loop-p-init

@@ -1,10 +1,7 @@
-use mathlib.Core.Path.{refl}
 use Prim.Native.Nat.{◌+◌, ◌-◌}
-use native.Mathlib.Omega.{arith}
 use lib.IntN.{sub_ℕ}
 use Rattle.numbers.specs.Signed.{above}
-use Rattle.numbers.proofs.Sums.{sum_term}
-use Rattle.numbers.proofs.Lists.{Filled, filled_none, filled_more, filled_all}
+use Rattle.numbers.proofs.Lists.{Filled}
 use Rattle.money.specs.Quantities.{cents, cents_of}
 use Rattle.money.proofs.area.dues.Given as goal
 

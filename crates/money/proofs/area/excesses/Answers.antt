@@ -1,8 +1,5 @@
-use Prim.Native.Nat.{◌-◌}
 use native.Mathlib.Omega.{arith}
-use Rattle.numbers.specs.Signed.{below}
-use Rattle.numbers.proofs.CappedSums.{Capped, capped_none, capped_more, capped_all}
-use Rattle.capacity.specs.Quantities.{watts_of}
+use Rattle.numbers.proofs.CappedSums.{capped_none, capped_more}
 use Rattle.money.proofs.area.excesses.Goals as goal
 
 pub loop-p-init : goal.loop-p-init

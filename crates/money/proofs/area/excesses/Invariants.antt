@@ -1,7 +1,6 @@
 use Prim.Native.Nat.{◌-◌}
-use native.Mathlib.Omega.{arith}
 use Rattle.numbers.specs.Signed.{below}
-use Rattle.numbers.proofs.CappedSums.{Capped, capped_none, capped_more, capped_all}
+use Rattle.numbers.proofs.CappedSums.{Capped}
 use Rattle.capacity.specs.Quantities.{watts_of}
 use Rattle.money.proofs.area.excesses.Given as goal
 

@@ -1,14 +1,8 @@
-use mathlib.Core.Path.{◌≡◌}
-use Prim.Native.Nat.{ℕ}
 use native.Mathlib.Omega.{arith}
-use lib.IntN.{ℤ, pos}
-use Rattle.numbers.specs.Lists.{list_below, element}
 use Rattle.numbers.specs.Signed.{above}
 use Rattle.numbers.proofs.Lists.{sum_filled}
-use Rattle.capacity.specs.Quantities.{watts_of}
-use Rattle.money.specs.AreaMoney.{ceiling, charges, ceilings, credit, left, load_share, settled}
-use Rattle.money.specs.Quantities.{cents, money}
-use Rattle.money.proofs.Bounds.{AreaRange, area_range, charges_bound, ceilings_bound, credits_fit, load_shares_fit}
+use Rattle.money.specs.AreaMoney.{charges, ceilings, settled}
+use Rattle.money.proofs.Bounds.{area_range, charges_bound, ceilings_bound, credits_fit, load_shares_fit}
 use Rattle.money.proofs.Dues.{amounts_filled, amounts_sum, total_filled, credits_filled, left_filled, loads_filled, undistributed_is, dues_filled}
 use Rattle.money.proofs.Dues.{paid_fits, money_same}
 use Rattle.money.proofs.area.money_in_range.Goals as goal

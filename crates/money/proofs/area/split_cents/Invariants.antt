@@ -1,12 +1,7 @@
-use mathlib.Core.Path.{refl, ap, ◌∙◌}
-use Prim.Native.Nat.{ℕ, ◌-◌, ◌<◌}
-use native.Mathlib.Omega.{arith}
+use Prim.Native.Nat.{◌-◌}
 use lib.IntN.{pos}
-use borrow.Author.Rules.{rules}
 use Rattle.numbers.specs.Lists.{element}
-use Rattle.numbers.specs.Signed.{above}
-use Rattle.numbers.proofs.Lists.{list_same, Filled, filled_none, filled_more, filled_all}
-use Rattle.numbers.proofs.Distribution.{PartyShare, party_share}
+use Rattle.numbers.proofs.Lists.{Filled}
 use Rattle.money.specs.Quantities.{cents}
 use Rattle.money.proofs.area.split_cents.Given as goal
 

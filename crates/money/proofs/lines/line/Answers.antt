@@ -1,6 +1,5 @@
 use mathlib.Core.Path.{ap, ◌∙◌}
 use native.Mathlib.Omega.{arith}
-use borrow.Author.Rules.{rules}
 use Rattle.numbers.proofs.SignedSums.{difference_parts}
 use Rattle.numbers.proofs.Sizes.{size_parts, both_within, first_past, second_past}
 use Rattle.money.specs.Quantities.{cents}

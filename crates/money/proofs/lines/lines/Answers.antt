@@ -1,9 +1,7 @@
 use mathlib.Core.Path.{refl}
-use Prim.Native.Nat.{◌-◌}
 use native.Mathlib.Omega.{arith}
-use Rattle.numbers.proofs.Lists.{Filled, filled_none, filled_more, filled_all}
-use Rattle.money.specs.Quantities.{cents, cents_of}
-use Rattle.money.specs.Lines.{line_answer, lines_answer}
+use Rattle.numbers.proofs.Lists.{filled_none, filled_more, filled_all}
+use Rattle.money.specs.Lines.{lines_answer}
 use Rattle.money.proofs.lines.lines.Goals as goal
 
 pub loop-p-init : goal.loop-p-init

@@ -1,0 +1,6 @@
+use native.Mathlib.Omega.{arith}
+use Rattle.records.proofs.Numbers.{of_byte}
+use Rattle.records.proofs.decode.byte.Goals as goal
+
+pub returns : goal.returns
+returns c = (of_byte _ _, omega (arith, c.shared_slice_known-1.given c.args.from))
