@@ -1,12 +1,12 @@
 -- What a test that passed says: of its parts, of a range, and of all numbers below n by one test that antt computes.
 use mathlib.Core.Path.{◌≡◌, refl, sym, ◌∙◌}
-use mathlib.Core.Bool.{Bool, true, false, ◌&&◌, ◌||◌, and-eq-true_iff, cond, not}
+use mathlib.Core.Bool.{Bool, true, false, ◌&&◌, ◌||◌, and-eq-true_iff, cond}
 use mathlib.Core.Logic.{◌⊎◌, inl, inr}
 use Prim.Native.Nat.{◌+◌, ◌-◌, ℕ, zero, suc, ◌≤◌, ◌<◌}
 use native.Mathlib.Nat.{not-suc-le-zero}
 use native.Mathlib.Omega.{arith}
 use lib.Dec.{leb, eqb, ltb}
-use borrow.Author.Tests.{eqb-true, eqb-false, leb-true, le-leb, not-true, not-false, ne_eqb, lt-ltb, le-ltb, lt-leb, eq-eqb, leb-false}
+use borrow.Author.Tests.{eqb-true, eqb-false, leb-true, le-leb, ne_eqb, lt-ltb, le-ltb, lt-leb, eq-eqb, leb-false}
 use Rattle.numbers.specs.Range.{within}
 
 pub or_cases : (a b : Bool) → (a || b) ≡ true → (a ≡ true) ⊎ (b ≡ true)
@@ -63,13 +63,6 @@ both_true {a} {b} q = (and-eq-true_iff a b).0 q
 -- a row of tests that passed begins with a bound
 pub at_most_and : {a b : ℕ} {t : Bool} → (leb a b && t) ≡ true → (a ≤ b) × (t ≡ true)
 at_most_and {a} {b} q = let (le, rest) = both_true q in (leb-true a b le, rest)
-
--- a flag whose negation was tested: it passed, so the flag is not set; it failed, so it is
-pub dropped : {f t : Bool} → f ≡ t → not f ≡ true → t ≡ false
-dropped {f} e q = sym e ∙ not-true f q
-
-pub kept : {f t : Bool} → f ≡ t → not f ≡ false → t ≡ true
-kept {f} e q = sym e ∙ not-false f q
 
 -- a test of numbers that calls gave, told of their definitions
 module _ {x y a b : ℕ} (p : x ≡ a) (q : y ≡ b) where

@@ -1,0 +1,30 @@
+use borrow.Author.Tests.{eq-eqb, ne_eqb}
+use Rattle.numbers.proofs.Tests.{flag}
+use Rattle.rules.specs.Refusal.{refusal_of, in_range}
+use Rattle.rules.proofs.refusal.load.Goals as goal
+
+pub returns-then-a-eq0 : goal.returns-then-a-eq0
+unfolding refusal_of in_range
+returns-then-a-eq0 c = simp (eq-eqb _ _ c.if-a-eq0.true)
+
+pub returns-then-not-load_fits : goal.returns-then-not-load_fits
+unfolding refusal_of in_range
+returns-then-not-load_fits c = simp (flag c.load_fits.ensures c.if-not-load_fits.true, ne_eqb _ _ c.if-a-eq0.false)
+
+pub returns-then-not-a : goal.returns-then-not-a
+unfolding refusal_of in_range
+returns-then-not-a c =
+    simp (
+      c.if-not-a.true,
+      flag c.load_fits.ensures c.if-not-load_fits.false,
+      ne_eqb _ _ c.if-a-eq0.false,
+    )
+
+pub returns : goal.returns
+unfolding refusal_of in_range
+returns c =
+    simp (
+      c.if-not-a.false,
+      flag c.load_fits.ensures c.if-not-load_fits.false,
+      ne_eqb _ _ c.if-a-eq0.false,
+    )
