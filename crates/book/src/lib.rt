@@ -1,5 +1,6 @@
 // The book: units, commitments and posted sums, one value; records are entered, and areas posted.
 #![tactic(auto)]
+
 ghost use Rattle.std.specs.Prelude.{◌≡◌};
 ghost use Rattle.book.specs.Books.{empty_book, Sound};
 ghost use Rattle.book.specs.Entered.{no_lines, answer, entered};

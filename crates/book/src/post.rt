@@ -92,9 +92,9 @@ fn nets_with(
 }
 
 // Each party's net in an area.
-fn area_nets(book: Book, area: usize) -> [UnforcedWatts; Book::PARTIES]
-    requires { Sound book × (area < area_count) }
-    ensures { result ≡ list_below party_count (λ p. unforced_watts (net_in (facts_of_book book) area p)) }
+fn area_nets(book: &Book, area: usize) -> [UnforcedWatts; Book::PARTIES]
+    requires { Sound book.now × (area < area_count) }
+    ensures { result ≡ list_below party_count (λ p. unforced_watts (net_in (facts_of_book book.now) area p)) }
 {
     let days = delivery_days(book.year) as u64;
     let commitments = book.commitments;
@@ -165,9 +165,9 @@ fn with_dues(
 }
 
 // What an area comes to.
-fn area_settled(book: Book, area: usize) -> AreaMoney
-    requires { Sound book × (area < area_count) }
-    ensures { result ≡ settled_in (facts_of_book book) area }
+fn area_settled(book: &Book, area: usize) -> AreaMoney
+    requires { Sound book.now × (area < area_count) }
+    ensures { result ≡ settled_in (facts_of_book book.now) area }
 {
     let entry = book.areas[area];
     let loads = book.obligations;
@@ -182,7 +182,7 @@ pub(crate) fn post(mut book: Book, area: usize) -> Answer
     requires { Sound book × (area < area_count) }
     ensures { result ≡ post_answer book area }
 {
-    let money = area_settled(book, area);
+    let money = area_settled(&book, area);
     if money.undistributed {
         return without_lines(11, book);
     }

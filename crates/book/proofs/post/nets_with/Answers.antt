@@ -1,0 +1,12 @@
+use borrow.Author.Tests.{eq-eqb, ne_eqb}
+use Rattle.book.specs.Steps.{nets_with}
+use Rattle.book.proofs.post.nets_with.Goals as goal
+
+pub returns-then-of-this : goal.returns-then-of-this
+unfolding nets_with
+returns-then-of-this c = simp (ne_eqb _ _ c.if-of-this.true)
+
+pub returns : goal.returns
+unfolding nets_with
+returns c =
+    simp (eq-eqb _ _ c.if-of-this.false, c.add_shares.ensures, c.unit_shares-shares.ensures, c.parts-parts.ensures)
