@@ -113,7 +113,7 @@ module _ (first : List ℤ) (at : ℕ) (cs : List Cents) (l : List ℤ) (k p : �
       → stored_from (k + 1) (set l k (to_z w64 (of_z w64 v))) (drop (p + 1) (amounts_of cs)) ≡ stored_from at first (amounts_of cs)
   lines_more {v} h e fits =
       let value : to_z w64 (of_z w64 v) ≡ get_or (amounts_of cs) p (pos 0) =
-      to_z-of_z (record { sfits = fits }) ∙ e ∙ sym (get_or-map (λ (c : Cents). c.0) cs p (cents (pos 0))) in
+      to_z-of_z {w = w64} (record { sfits = fits }) ∙ e ∙ sym (get_or-map (λ (c : Cents). c.0) cs p (cents (pos 0))) in
       stored_more l (amounts_of cs) k p (pos 0) (rw length-map h) value ∙ left
 
 -- one string more

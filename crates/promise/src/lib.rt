@@ -1,4 +1,5 @@
 // The fresh reckoning (01, Area money), the promise, the run of a whole log, and figures a to j.
 #![tactic(auto)]
+
 pub mod laws;
 pub mod log;
