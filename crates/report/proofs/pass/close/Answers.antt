@@ -13,8 +13,7 @@ pub returns-then-has_room : goal.returns-then-has_room
 unfolding close_answer
 returns-then-has_room c =
     let fits = flag c.has_room.ensures c.if-has_room.true in
-    let put = c.put_end.ensures in
-    (
+    let put = c.put_end.ensures in (
       closed_by c.args.t put.0 ∙ simp (fits),
       omega (arith, put.1, leb-true (c.args.t.used + pair_most) (length c.args.out.now) fits),
     )

@@ -1,35 +1,54 @@
-use mathlib.Core.Path.{sym, ap, ◌∙◌}
-use Prim.Native.Nat.{◌+◌, ◌^◌, ◌≤◌, ◌<◌}
+use mathlib.Core.Path.{◌≡◌, sym, ap, ◌∙◌}
+use mathlib.Core.Bool.{Bool, true}
+use lib.Dec.{leb}
+use Prim.Native.Nat.{ℕ, ◌+◌, ◌^◌, ◌≤◌, ◌<◌}
 use native.Mathlib.Omega.{arith}
 use lib.ListN.{length}
 use borrow.Author.Tests.{leb-true}
 use Rattle.numbers.proofs.Tests.{flag}
-use Rattle.report.specs.Passes.{closed, room}
+use Rattle.report.specs.declared.pass.Tally.{Tally}
+use Rattle.report.specs.Passes.{is_countable, closed, room}
 use Rattle.report.proofs.Passing.{counts_fit, closed_by, nothing_left, cut_record}
 use Rattle.report.proofs.pass.finish.Goals as goal
-use Rattle.report.proofs.pass.finish.Tie as tie
 
--- where there is room and the counts fit
-abbrev start : tie.Then3 → tie.Start
-start c = c.before.before.before.before.before.before.before
+-- the counts fit, and there is room
+counts : (t : Tally) {fit : Bool} → fit ≡ is_countable t.tried t.accepted 1 → fit ≡ true → (t.accepted ≤ t.tried) × (t.tried + 1 < 2 ^ 64)
+counts t is passed = counts_fit t 1 (flag is passed)
 
-counts : (c : tie.Then3) → ((start c).args.t.accepted ≤ (start c).args.t.tried) × ((start c).args.t.tried + 1 < 2 ^ 64)
-counts c = counts_fit (start c).args.t 1 (flag c.is_countable.ensures c.if-is_countable.true)
+fits : (used size : ℕ) {free : Bool} → free ≡ leb (used + room) size → free ≡ true → used + room ≤ size
+fits used size is passed = leb-true _ _ (flag is passed)
 
-fits : (c : tie.Then3) → (start c).args.t.used + room ≤ length (start c).args.out.now
-fits c = leb-true _ _ (flag c.has_room.ensures c.if-has_room.true)
+pub returns-then-rest-eq0 : goal.returns-then-rest-eq0
+returns-then-rest-eq0 c =
+    let answer = c.close.ensures in
+    (answer.0 ∙ sym (nothing_left c.args.t c.args.rest.now c.args.out.now c.if-rest-eq0.true), answer.1)
 
 pub try_record-last-requires : goal.try_record-last-requires
-try_record-last-requires c = (((start c.before).requires, (counts c.before).0, omega (arith, fits c.before)), (counts c.before).1)
+try_record-last-requires c =
+    let few = counts c.args.t c.is_countable.ensures c.if-is_countable.true in
+    ((c.requires, few.0, omega (arith, fits c.args.t.used (length c.args.out.now) c.has_room.ensures c.if-has_room.true)), few.1)
+
+pub put_end-requires : goal.put_end-requires
+put_end-requires c = omega (arith, fits c.args.t.used (length c.args.out.now) c.has_room.ensures c.if-has_room.true, c.try_record-last.ensures.ready.1)
 
 pub returns-then-has_room : goal.returns-then-has_room
 returns-then-has_room c =
     let put = c.put_end.ensures in
     let last = c.try_record-last in
-    let t = (start ruled).args.t in
-    let cut = cut_record t (start ruled).args.rest.now (start ruled).args.out.now c.if-rest-eq0.false in
+    let cut = cut_record c.args.t c.args.rest.now c.args.out.now c.if-rest-eq0.false in
     let few = flag c.is_countable.ensures c.if-is_countable.true in
     let free = flag c.has_room.ensures c.if-has_room.true in (
-      closed_by last.result put.0 ∙ ap closed last.ensures.0 ∙ sym (cut ∙ simp (few, free)),
-      omega (arith, fits ruled, last.ensures.1.1, put.1),
+      closed_by last.result put.0 ∙ ap closed last.ensures.out_after ∙ sym (cut ∙ simp (few, free)),
+      omega (arith, fits c.args.t.used (length c.args.out.now) c.has_room.ensures c.if-has_room.true, last.ensures.ready.1, put.1),
     )
+
+pub returns-else-has_room : goal.returns-else-has_room
+returns-else-has_room c =
+    let cut = cut_record c.args.t c.args.rest.now c.args.out.now c.if-rest-eq0.false in
+    let few = flag c.is_countable.ensures c.if-is_countable.true in
+    (sym (cut ∙ simp (few, flag c.has_room.ensures c.if-has_room.false)), omega arith)
+
+pub returns-else-is_countable : goal.returns-else-is_countable
+returns-else-is_countable c =
+    let cut = cut_record c.args.t c.args.rest.now c.args.out.now c.if-rest-eq0.false in
+    (sym (cut ∙ simp (flag c.is_countable.ensures c.if-is_countable.false)), omega arith)

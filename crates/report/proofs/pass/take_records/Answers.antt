@@ -1,5 +1,4 @@
 use mathlib.Core.Path.{sym, ◌∙◌}
-use Prim.Native.Nat.{◌+◌, ◌^◌, ◌≤◌, ◌<◌}
 use native.Mathlib.Omega.{arith}
 use lib.ListN.{length}
 use lib.Seq.{length-take-le, take_all}
@@ -7,54 +6,31 @@ use borrow.Author.Rules.{rules}
 use Rattle.report.specs.Passes.{pass_answer}
 use Rattle.report.proofs.Passing.{pass_ready, countable_fits, countable_all, held_is_ready, held_tried}
 use Rattle.report.proofs.pass.take_records.Goals as goal
-use Rattle.report.proofs.pass.take_records.Tie as tie
-
--- the start, and what can be counted of the records
-abbrev start : goal.After-countable-end → tie.Start
-start c = c.before.before.before
-
-fits : (c : goal.After-countable-end)
-    → (c.countable-end.result ≤ length (start c).args.s.now) × ((start c).args.t.tried + c.countable-end.result < 2 ^ 64)
-fits c = countable_fits (start c).args.t.tried (length (start c).args.s.now) (search rules) c.countable-end.ensures
 
 pub slice_bounds-pass_over-end : goal.slice_bounds-pass_over-end
-slice_bounds-pass_over-end c = sym (length-take-le _ _ (fits c.before.before).0)
+slice_bounds-pass_over-end c = sym (length-take-le _ _ (countable_fits c.args.t.tried (length c.args.s.now) (search rules) c.countable-end.ensures).0)
 
 pub pass_over-requires : goal.pass_over-requires
 pass_over-requires c =
-    let t = (start counted).args.t in
+    let fits = countable_fits c.args.t.tried (length c.args.s.now) (search rules) c.countable-end.ensures in
     let held = c.held-tally.ensures in
-    let some = length-take-le c.countable-end.result (start counted).args.s.now (fits counted).0 in
-    (held_is_ready t (start counted).args.out.now held (start counted).requires, omega (arith, held_tried t _ held, some, (fits counted).1))
+    let some = length-take-le c.countable-end.result c.args.s.now fits.0 in
+    (held_is_ready c.args.t c.args.out.now held c.requires, omega (arith, held_tried c.args.t _ held, some, fits.1))
 
 pub returns : goal.returns
 unfolding pass_answer
 returns c =
-    let t = (start counted).args.t in
-    let s = (start counted).args.s.now in
+    let t = c.args.t in
+    let s = c.args.s.now in
+    let counted = c.countable-end in
     let held = c.held-tally.ensures in
-    let pass = c.pass_over.ensures in (
-      pass.0 ∙ rw (held, c.countable-end.ensures),
-      λ ready few.
-          let whole = take_all c.countable-end.result s (omega (arith, c.countable-end.ensures, countable_all t.tried (length s) few)) in (
-            pass.0 ∙ rw (held, c.countable-end.ensures) (pass_ready t s (start counted).args.out.now ready few),
-            pass.1.0,
-            rw (held_tried t _ held, whole) at pass.1.1,
-          ),
-    )
-
-pub returns : goal.returns
-unfolding pass_answer
-returns c =
-    let t = (start counted).args.t in
-    let s = (start counted).args.s.now in
-    let held = c.held-tally.ensures in
-    let pass = c.pass_over.ensures in (
-      pass.0 ∙ rw (held, c.countable-end.ensures),
-      λ ready few.
-          let whole = take_all c.countable-end.result s (omega (arith, c.countable-end.ensures, countable_all t.tried (length s) few)) in (
-            pass.0 ∙ rw (held, c.countable-end.ensures) (pass_ready t s (start counted).args.out.now ready few),
-            pass.1.0,
-            rw (held_tried t _ held, whole) at pass.1.1,
-          ),
-    )
+    let pass = c.pass_over.ensures in
+    record {
+      out_after = pass.out_after ∙ rw (held, counted.ensures);
+      leaves = λ ready few.
+          let whole = take_all counted.result s (omega (arith, counted.ensures, countable_all t.tried (length s) few)) in (
+            pass.out_after ∙ rw (held, counted.ensures) (pass_ready t s c.args.out.now ready few),
+            pass.ready.0,
+            rw (held_tried t _ held, whole) at pass.ready.1,
+          );
+    }

@@ -1,11 +1,7 @@
-use mathlib.Core.Path.{◌≡◌, refl}
-use Prim.Native.Nat.{◌+◌, ◌-◌, ◌*◌, ◌≤◌}
+use mathlib.Core.Path.{refl}
 use native.Mathlib.Omega.{arith}
-use lib.ListN.{length}
 use borrow.Author.Rules.{rules}
-use Rattle.records.specs.Format.{party_count}
-use Rattle.report.specs.Printed.{party_lines, line_most, Put}
-use Rattle.report.proofs.Texts.{lines_none, lines_more, lines_all}
+use Rattle.report.proofs.Texts.{lines_none, lines_more}
 use Rattle.report.proofs.text.put_lines.Goals as goal
 
 pub loop-p-init : goal.loop-p-init
@@ -15,4 +11,4 @@ pub loop-p-preserved : goal.loop-p-preserved
 loop-p-preserved c =
     let amount = c.amount in
     let lines = c.loop-p.invariant.3 in
-    (omega arith, search rules, search rules, lines_more _ _ _ lines amount.ensures amount.type-inv c.put_unless_zero-end.ensures.0)
+    (omega arith, search rules, search rules, lines_more _ _ _ lines amount.ensures amount.type_inv c.put_unless_zero-end.ensures.0)

@@ -1,11 +1,8 @@
-use mathlib.Core.Path.{◌≡◌, refl}
+use mathlib.Core.Path.{◌≡◌}
 use Prim.Native.Nat.{◌+◌, ◌-◌, ◌*◌, ◌≤◌}
-use native.Mathlib.Omega.{arith}
 use lib.ListN.{length}
-use borrow.Author.Rules.{rules}
 use Rattle.records.specs.Format.{party_count}
 use Rattle.report.specs.Printed.{party_lines, line_most, Put}
-use Rattle.report.proofs.Texts.{lines_none, lines_more, lines_all}
 use Rattle.report.proofs.text.put_lines.Given as goal
 
 abbrev pub invariant-loop-p : goal.invariant-loop-p
