@@ -1,13 +1,32 @@
 // The ledger program: records from standard input are entered into a book, and the answers go to standard output.
 #![tactic(auto)]
-ghost use Rattle.std.specs.Prelude.{◌≡◌, ◌+◌, ◌-◌, ◌^◌, ◌≤◌, ◌<◌, length, take, drop};
+
+ghost use Rattle.std.specs.Prelude.{◌≡◌, ◌+◌, ◌-◌, ◌^◌, ◌≤◌, ◌<◌, IfOk, IfSome, length, take, drop};
 ghost use Rattle.report.specs.Passes.{Ready, room, state_of, ended, closed};
 ghost use Rattle.report.specs.Printed.{pair_most};
 ghost use Rattle.ledger.specs.Turns.{Running};
 
 use book::Book;
-use libc::{EINTR, STDERR_FILENO, STDIN_FILENO, STDOUT_FILENO};
 use report::pass::{Stop, Tally, close, finish, printed, take_records};
+use std::env::{Env, FillError};
+use std::io;
+use std::io::{ErrorKind, IsTerminal, Read, Write};
+use std::process::ExitCode;
+use thiserror::Error;
+
+const BUFFER_BYTES: usize = 65536;
+
+// Why a run ends without its last line.
+#[derive(Debug, Drop, Error)]
+enum Failure {
+    #[error("standard input: {0}")]
+    Input(io::Error),
+    #[error("standard output: {0}")]
+    Output(io::Error),
+    // The counts might not fit 64 bits.
+    #[error("standard input: too long to count")]
+    TooLong,
+}
 
 // Where the run stands after a turn: `end` bytes of the input buffer are still to be tried, and `left` more may be read,
 // so that the counts fit 64 bits.
@@ -16,7 +35,6 @@ struct Turn {
     tally: Tally,
     end: usize,
     left: u64,
-    more: bool,
 }
 
 // Moves the bytes of buf between two places to its start, and answers how many they are.
@@ -24,21 +42,12 @@ fn carry(buf: &mut [u8], from: usize, to: usize) -> usize
     requires { (from ≤ to) × (to ≤ length buf.old) }
     ensures { (result ≡ to - from) × (take result buf.new ≡ take result (drop from buf.old)) }
 {
-    let count = to - from;
-    let mut i = 0;
-    while i < count {
-        buf[i] = buf[from + i];
-        i += 1;
-    }
-    count
+    buf.copy_within(from..to, 0);
+    to - from
 }
 
-fn print(text: &[u8]) -> bool {
-    let is_written = io::write_all(STDOUT_FILENO, text);
-    if !is_written {
-        os::fail(b"ledger: standard output");
-    }
-    is_written
+fn print<W: Write>(output: &mut W, text: &[u8]) -> Result<(), Failure> {
+    output.write_all(text).map_err(Failure::Output)
 }
 
 // The last line, after a broken record: there is room for it.
@@ -58,95 +67,85 @@ fn last_lines(t: Tally, rest: &[u8], out: &mut [u8]) -> usize
 }
 
 // Reads once, after the bytes that were carried over: a whole record has at most 35 bytes, so that there is room.
-fn read_more(t: Tally, buf: &mut [u8], end: usize, left: u64, out: &mut [u8]) -> Turn
+fn read_more<R: Read, W: Write>(
+    input: &mut R,
+    output: &mut W,
+    t: Tally,
+    buf: &mut [u8],
+    end: usize,
+    left: u64,
+    out: &mut [u8],
+) -> Result<Option<Turn>, Failure>
     requires { Running t end left buf.old out.old × Ready room t out.old }
-    ensures { Running result.tally result.end result.left buf.new out.new }
+    ensures { IfOk result (λ next. IfSome next (λ turn. Running turn.tally turn.end turn.left buf.new out.new)) }
 {
-    let got = libc::read(STDIN_FILENO, &mut buf[end..]);
-    if got < 0 {
-        if os::errno() == EINTR {
-            return Turn {
+    let count = match input.read(&mut buf[end..]) {
+        Ok(count) => count,
+        Err(e) if e.kind() == ErrorKind::Interrupted => {
+            return Ok(Some(Turn {
                 tally: t,
                 end,
                 left,
-                more: true,
-            };
+            }));
         }
-        os::fail(b"ledger: standard input");
-        return Turn {
-            tally: t,
-            end,
-            left,
-            more: false,
-        };
-    }
-    if got == 0 {
+        Err(e) => return Err(Failure::Input(e)),
+    };
+    if count == 0 {
         let used = last_lines(t, &buf[..end], out);
-        print(&out[..used]);
-        return Turn {
-            tally: printed(t),
-            end: 0,
-            left,
-            more: false,
-        };
+        print(output, &out[..used])?;
+        return Ok(None);
     }
-    let count = io::count(got, &buf[end..]);
     if left < count as u64 {
-        io::write_all(
-            STDERR_FILENO,
-            b"ledger: standard input: too long to count\n",
-        );
-        return Turn {
-            tally: t,
-            end,
-            left,
-            more: false,
-        };
+        return Err(Failure::TooLong);
     }
-    Turn {
+    Ok(Some(Turn {
         tally: t,
         end: end + count,
         left: left - count as u64,
-        more: true,
-    }
+    }))
 }
 
 // Tries the records of the buffer, carries a cut one over, and prints or reads where there is need.
-fn take_turn(t: Tally, buf: &mut [u8], end: usize, left: u64, out: &mut [u8]) -> Turn
+fn take_turn<R: Read, W: Write>(
+    input: &mut R,
+    output: &mut W,
+    t: Tally,
+    buf: &mut [u8],
+    end: usize,
+    left: u64,
+    out: &mut [u8],
+) -> Result<Option<Turn>, Failure>
     requires { Running t end left buf.old out.old }
-    ensures { Running result.tally result.end result.left buf.new out.new }
+    ensures { IfOk result (λ next. IfSome next (λ turn. Running turn.tally turn.end turn.left buf.new out.new)) }
 {
     let p = take_records(t, &buf[..end], out);
     let tally = p.tally;
     let kept = carry(buf, p.next, end);
-    let stop = p.stop;
-    match stop {
+    match p.stop {
         Stop::Full => {
-            let used = tally.used;
-            let more = print(&out[..used]);
-            Turn {
+            print(output, &out[..tally.used])?;
+            Ok(Some(Turn {
                 tally: printed(tally),
                 end: kept,
                 left,
-                more,
-            }
+            }))
         }
         Stop::Broken => {
             let used = last_line(tally, out);
-            print(&out[..used]);
-            Turn {
-                tally: printed(tally),
-                end: kept,
-                left,
-                more: false,
-            }
+            print(output, &out[..used])?;
+            Ok(None)
         }
-        Stop::Partial => read_more(tally, buf, kept, left, out),
+        Stop::Partial => read_more(input, output, tally, buf, kept, left, out),
     }
 }
 
-// A proved loop has to end, and nothing says that the input does: the turns are counted down from a number that no run uses up.
-fn run(buf: &mut [u8], out: &mut [u8]) {
+// A proved loop has to end, and nothing says that the input does: the turns are counted, to a number that no run gets to.
+fn run<R: Read, W: Write>(
+    input: &mut R,
+    output: &mut W,
+    buf: &mut [u8],
+    out: &mut [u8],
+) -> Result<(), Failure> {
     let mut t = Tally {
         book: Book::new(),
         tried: 0,
@@ -155,29 +154,33 @@ fn run(buf: &mut [u8], out: &mut [u8]) {
     };
     let mut end = 0;
     let mut left = u64::MAX - 1;
-    let mut turns = u64::MAX;
-    while turns > 0 {
-        turns -= 1;
-        let next = take_turn(t, buf, end, left, out);
-        if !next.more {
-            return;
-        }
-        let tally = next.tally;
-        t = tally;
+    for _ in 0..u64::MAX {
+        let Some(next) = take_turn(input, output, t, buf, end, left, out)? else {
+            return Ok(());
+        };
+        t = next.tally;
         end = next.end;
         left = next.left;
     }
+    Err(Failure::TooLong)
 }
 
-fn main() {
-    if os::arg_count() > 1 || libc::isatty(STDIN_FILENO) == 1 {
-        io::write_all(
-            STDERR_FILENO,
-            b"ledger: reads records from standard input, as in: ledger <FILE\n",
-        );
-        return;
+fn has_argument(rt: &impl Env) -> bool {
+    let mut start = [0u8; 1];
+    !matches!(rt.arg(1, &mut start), Err(FillError::NotPresent))
+}
+
+// A run that has no last line ends with status 1.
+fn main(rt: HostRuntime) -> ExitCode {
+    if has_argument(&rt) || rt.stdin().is_terminal() {
+        let _ = eprintln!(rt; "ledger: reads records from standard input, as in: ledger <FILE");
+        return ExitCode::FAILURE;
     }
-    let mut buf = io::large_buffer();
-    let mut out = io::large_buffer();
-    run(&mut buf, &mut out);
+    let mut buf = [0u8; BUFFER_BYTES];
+    let mut out = [0u8; BUFFER_BYTES];
+    if let Err(failure) = run(&mut rt.stdin(), &mut rt.stdout(), &mut buf, &mut out) {
+        let _ = eprintln!(rt; "ledger: {failure}");
+        return ExitCode::FAILURE;
+    }
+    ExitCode::SUCCESS
 }
