@@ -55,7 +55,7 @@ unit_in_range_lem : (u : Unit) (a : ℕ) → SoundUnit u → u.entry.area ≡ a 
 unfolding unit_in_range rates_in_range hours_in_range
 unit_in_range_lem u a s e =
     simp (
-      within_holds 1 installed_most _ least s.rating.installed_most_lem,
+      within_holds 1 installed_most _ least s.rating.installed_bound,
       le-leb _ _ s.rating.eford_most,
       le-leb _ _ s.rating.eford5_most,
       le-leb _ _ s.rating.efordyear_most,
@@ -128,7 +128,7 @@ module _ (b : Book) where
   amounts_small sound a u = go (eqb (F.unit u).area (a + 1))
     where
       go : (t : Bool) → nat_abs (cond t (limited_shortfall (F.unit u).rating (F.hours u) (watt_days_of (part u)) (days F)) (pos 0)) ≤ installed_most
-      go true = le_trans (limited_shortfall_size (F.unit u).rating (F.hours u) (watt_days_of (part u)) (days F)) (sound.units.each u).rating.installed_most_lem
+      go true = le_trans (limited_shortfall_size (F.unit u).rating (F.hours u) (watt_days_of (part u)) (days F)) (sound.units.each u).rating.installed_bound
       go false = zero-le
 
   -- a unit's watt-days are those of 64 commitments at most

@@ -29,7 +29,7 @@ derated_most {u} h =
       h.derated_most,
       h.hours_counted,
       h.last_most,
-      mul-le-mul {n₁ = u.hours.service} {m₁ = u.entry.rating.installed.0} {n₂ = hours_most} {m₂ = installed_most} (omega (arith, h.hours_counted, h.last_most)) h.rating.installed_most_lem,
+      mul-le-mul {n₁ = u.hours.service} {m₁ = u.entry.rating.installed.0} {n₂ = hours_most} {m₂ = installed_most} (omega (arith, h.hours_counted, h.last_most)) h.rating.installed_bound,
     )
 
 -- a commitment's watt-days are at most 5,000,000 × 366, and what `watt_days` answers

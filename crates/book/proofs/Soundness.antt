@@ -46,7 +46,7 @@ no_unit_sound : SoundUnit no_entry
 no_unit_sound =
     record {
       rating =
-          record { installed_most_lem = omega arith; eford_most = omega arith; eford5_most = omega arith; efordyear_most = omega arith; class_most = omega arith };
+          record { installed_bound = omega arith; eford_most = omega arith; eford5_most = omega arith; efordyear_most = omega arith; class_most = omega arith };
       installed_least = inl refl;
       hours_counted = omega arith;
       last_most = omega arith;
@@ -82,7 +82,7 @@ new_unit_sound y r ok =
     record {
       rating =
           record {
-            installed_most_lem = within_to _ _ _ installed.0;
+            installed_bound = within_to _ _ _ installed.0;
             eford_most = within_to _ _ _ installed.1.0;
             eford5_most = within_to _ _ _ installed.1.1.0;
             efordyear_most = within_to _ _ _ installed.1.1.1.0;

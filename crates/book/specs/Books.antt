@@ -62,7 +62,7 @@ empty_book = record {
 
 -- The ranges of 01, Records, and what follows from them for a unit's hours. What is not entered is in them too.
 pub record SoundRating (r : Rating) : Type 0 where
-  pub installed_most_lem : r.installed.0 ≤ installed_most
+  pub installed_bound : r.installed.0 ≤ installed_most
   pub eford_most : r.eford ≤ rate_most
   pub eford5_most : r.eford5 ≤ rate_most
   pub efordyear_most : r.efordyear ≤ rate_most
