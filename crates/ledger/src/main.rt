@@ -1,10 +1,12 @@
 // The ledger program: records from standard input are entered into a book, and the answers go to standard output.
 #![tactic(auto)]
 
-ghost use Rattle.std.specs.Prelude.{◌≡◌, ◌+◌, ◌-◌, ◌^◌, ◌≤◌, ◌<◌, IfOk, IfSome, length, take, drop};
+ghost use Rattle.std.specs.Prelude.{◌≡◌, ◌+◌, ◌-◌, ◌^◌, ◌≤◌, ◌<◌, IfOk, OnOk, IfSome, length, take, drop};
+ghost use Rattle.std.specs.Io.KnownBytes.{Appends};
 ghost use Rattle.report.specs.Passes.{Ready, room, state_of, ended, closed};
 ghost use Rattle.report.specs.Printed.{pair_most};
 ghost use Rattle.ledger.specs.Turns.{Running};
+ghost use Rattle.ledger.specs.Input.{record_most, IsCut, at_first, printed_from, outcome, Follows};
 
 use book::Book;
 use report::pass::{Stop, Tally, close, finish, printed, take_records};
@@ -46,7 +48,9 @@ fn carry(buf: &mut [u8], from: usize, to: usize) -> usize
     to - from
 }
 
-fn print<W: Write>(output: &mut W, text: &[u8]) -> Result<(), Failure> {
+fn print<W: Write>(output: &mut W, text: &[u8]) -> Result<(), Failure>
+    ensures { OnOk result (Appends (W.contents output.old) (W.contents output.new) text.now) }
+{
     output.write_all(text).map_err(Failure::Output)
 }
 
@@ -66,7 +70,8 @@ fn last_lines(t: Tally, rest: &[u8], out: &mut [u8]) -> usize
     finish(t, rest, out)
 }
 
-// Reads once, after the bytes that were carried over: a whole record has at most 35 bytes, so that there is room.
+// Reads once, after the bytes that were carried over: a whole record has at most 35 bytes, so that there is room. At the end of
+// the input the last lines are printed, and no turn follows.
 fn read_more<R: Read, W: Write>(
     input: &mut R,
     output: &mut W,
@@ -77,7 +82,10 @@ fn read_more<R: Read, W: Write>(
     out: &mut [u8],
 ) -> Result<Option<Turn>, Failure>
     requires { Running t end left buf.old out.old × Ready room t out.old }
-    ensures { IfOk result (λ next. IfSome next (λ turn. Running turn.tally turn.end turn.left buf.new out.new)) }
+    ensures running { IfOk result (λ next. IfSome next (λ turn. Running turn.tally turn.end turn.left buf.new out.new)) }
+    ensures printed { record_most ≤ length buf.old → IsCut (take end buf.old) → IfOk result (λ next. Follows
+        (outcome (W.contents output.old) (state_of t out.old) (take end buf.old) (R.remaining input.old))
+        (W.contents output.new) (R.remaining input.new) buf.new out.new next) }
 {
     let count = match input.read(&mut buf[end..]) {
         Ok(count) => count,
@@ -105,7 +113,7 @@ fn read_more<R: Read, W: Write>(
     }))
 }
 
-// Tries the records of the buffer, carries a cut one over, and prints or reads where there is need.
+// Tries the records of the buffer, carries a cut one over, and prints or reads where there is need. No turn follows the last line.
 fn take_turn<R: Read, W: Write>(
     input: &mut R,
     output: &mut W,
@@ -116,7 +124,10 @@ fn take_turn<R: Read, W: Write>(
     out: &mut [u8],
 ) -> Result<Option<Turn>, Failure>
     requires { Running t end left buf.old out.old }
-    ensures { IfOk result (λ next. IfSome next (λ turn. Running turn.tally turn.end turn.left buf.new out.new)) }
+    ensures running { IfOk result (λ next. IfSome next (λ turn. Running turn.tally turn.end turn.left buf.new out.new)) }
+    ensures printed { record_most ≤ length buf.old → IfOk result (λ next. Follows
+        (outcome (W.contents output.old) (state_of t out.old) (take end buf.old) (R.remaining input.old))
+        (W.contents output.new) (R.remaining input.new) buf.new out.new next) }
 {
     let p = take_records(t, &buf[..end], out);
     let tally = p.tally;
@@ -139,13 +150,17 @@ fn take_turn<R: Read, W: Write>(
     }
 }
 
-// A proved loop has to end, and nothing says that the input does: the turns are counted, to a number that no run gets to.
+// In whatever parts the input is read, what is printed is what the whole of it is answered with. A proved loop has to end, and
+// nothing says that the input does: the turns are counted, to a number that no run gets to.
 fn run<R: Read, W: Write>(
     input: &mut R,
     output: &mut W,
     buf: &mut [u8],
     out: &mut [u8],
-) -> Result<(), Failure> {
+) -> Result<(), Failure>
+    ensures { record_most ≤ length buf.old → OnOk result (IfSome (R.remaining input.old)
+        (λ s. Appends (W.contents output.old) (W.contents output.new) (printed_from at_first s))) }
+{
     let mut t = Tally {
         book: Book::new(),
         tried: 0,
@@ -155,12 +170,14 @@ fn run<R: Read, W: Write>(
     let mut end = 0;
     let mut left = u64::MAX - 1;
     for _ in 0..u64::MAX {
-        let Some(next) = take_turn(input, output, t, buf, end, left, out)? else {
-            return Ok(());
-        };
-        t = next.tally;
-        end = next.end;
-        left = next.left;
+        match take_turn(input, output, t, buf, end, left, out)? {
+            Some(turn) => {
+                t = turn.tally;
+                end = turn.end;
+                left = turn.left;
+            }
+            None => return Ok(()),
+        }
     }
     Err(Failure::TooLong)
 }
