@@ -187,11 +187,11 @@ fn has_argument(rt: &impl Env) -> bool {
     !matches!(rt.arg(1, &mut start), Err(FillError::NotPresent))
 }
 
-// A run that has no last line ends with status 1.
+// A run that begins and gets to no last line ends with status 1.
 fn main(rt: HostRuntime) -> ExitCode {
     if has_argument(&rt) || rt.stdin().is_terminal() {
         let _ = eprintln!(rt; "ledger: reads records from standard input, as in: ledger <FILE");
-        return ExitCode::FAILURE;
+        return ExitCode::SUCCESS;
     }
     let mut buf = [0u8; BUFFER_BYTES];
     let mut out = [0u8; BUFFER_BYTES];
