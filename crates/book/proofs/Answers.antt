@@ -1,12 +1,5 @@
 -- From the number that rows 1 to 10 give to a string's answer.
-use mathlib.Core.Path.{◌≡◌, refl, sym, ap, ◌∙◌}
-use mathlib.Core.Bool.{Bool, true, false, cond}
-use mathlib.Core.List.{List}
-use Prim.Native.Nat.{ℕ, suc}
-use native.Mathlib.Omega.{arith}
-use lib.Dec.{eqb}
-use lib.ListN.{get_or, set}
-use borrow.Author.Tests.{ne_eqb}
+use Rattle.std.proofs.Common.{◌≡◌, refl, sym, ap, ◌∙◌, Bool, true, false, cond, List, ℕ, suc, arith, eqb, get_or, set, ne_eqb}
 use Rattle.numbers.specs.Lists.{element}
 use Rattle.money.specs.declared.Cents.{Cents}
 use Rattle.records.specs.declared.format.HourRecord.{HourRecord}

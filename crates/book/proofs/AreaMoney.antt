@@ -1,14 +1,6 @@
 -- An area's money in a sound book: it is in the ranges of `capacity` and `money`, so that each answer is what 01 defines.
-use mathlib.Core.Path.{◌≡◌, refl, ap, ◌∙◌}
-use mathlib.Core.Bool.{Bool, true, false, cond}
-use mathlib.Core.List.{List}
-use Prim.Native.Nat.{ℕ, ◌/◌, ◌%◌, ◌≤◌, ◌<◌, zero-le}
-use native.Mathlib.Nat.{le_refl, mod-lt}
-use native.Mathlib.Omega.{arith}
-use lib.IntN.{ℤ, pos, nat_abs}
-use lib.Dec.{eqb, ltb}
-use lib.ListN.{get_or}
-use borrow.Author.Tests.{le-leb}
+use Rattle.std.proofs.Common.{◌≡◌, refl, ap, ◌∙◌, Bool, true, false, cond, List, ℕ, ◌/◌, ◌%◌, ◌≤◌, ◌<◌, zero-le, le_refl, mod-lt, arith, ℤ, pos}
+use Rattle.std.proofs.Common.{nat_abs, eqb, ltb, get_or, le-leb}
 use Rattle.numbers.specs.Lists.{list_below, element}
 use Rattle.numbers.proofs.Tests.{within_to}
 use Rattle.numbers.proofs.Sums.{sum_bounded}

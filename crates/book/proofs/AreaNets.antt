@@ -1,17 +1,7 @@
 -- An area's nets unit by unit: each unit's share is one split, and in a sound book no guard of `capacity` is met.
-use mathlib.Core.Path.{◌≡◌, refl, sym, ap, ◌∙◌}
-use mathlib.Core.Bool.{Bool, true, false, cond}
-use mathlib.Core.List.{List}
-use mathlib.Core.Logic.{◌⊎◌, inl, inr}
-use Prim.Native.Nat.{ℕ, ◌+◌, ◌-◌, ◌*◌, ◌≤◌, ◌<◌, zero-le}
-use native.Mathlib.Nat.{le_refl, le_trans}
-use native.Mathlib.Numerals.{add-one}
-use native.Mathlib.Omega.{arith}
-use lib.IntN.{ℤ, pos, nat_abs, ◌+ℤ◌, +ℤ_idr}
-use lib.Dec.{eqb}
-use lib.ListN.{length, get_or}
-use lib.Seq.{ext_get_or}
-use borrow.Author.Tests.{eqb-true, eq-eqb, le-leb}
+use Rattle.std.proofs.Common.{◌≡◌, refl, sym, ap, ◌∙◌, Bool, true, false, cond, List, ◌⊎◌, inl, inr, ℕ, ◌+◌, ◌-◌, ◌*◌, ◌≤◌, ◌<◌, zero-le, le_refl}
+use Rattle.std.proofs.Common.{le_trans, add-one, arith, ℤ, pos, nat_abs, ◌+ℤ◌, eqb, length, get_or, ext_get_or, eqb-true, eq-eqb, le-leb}
+use lib.IntN.{+ℤ_idr}
 use Rattle.numbers.specs.Sum.{sum_below}
 use Rattle.numbers.specs.Range.{within}
 use Rattle.numbers.specs.Lists.{list_below, element}

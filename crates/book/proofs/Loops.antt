@@ -1,10 +1,5 @@
 -- Elements of lists that loops read and store.
-use mathlib.Core.Path.{◌≡◌}
-use mathlib.Core.List.{List}
-use Prim.Native.Nat.{ℕ, ◌<◌}
-use lib.IntN.{pos}
-use lib.ListN.{length, get_or}
-use borrow.Author.Tests.{lt-ltb}
+use Rattle.std.proofs.Common.{◌≡◌, List, ℕ, ◌<◌, pos, length, get_or, lt-ltb}
 use Rattle.numbers.proofs.Lists.{length_below}
 use Rattle.money.specs.declared.Cents.{Cents}
 use Rattle.money.specs.Quantities.{cents}

@@ -1,11 +1,5 @@
 -- A post, step by step: what its calls gave makes the answer of the definitions.
-use mathlib.Core.Path.{◌≡◌, ap, sym, ◌∙◌}
-use mathlib.Core.Bool.{true, false, cond}
-use mathlib.Core.List.{List}
-use Prim.Native.Nat.{ℕ, ◌/◌, ◌%◌}
-use lib.IntN.{pos}
-use lib.Dec.{eqb}
-use lib.ListN.{get_or}
+use Rattle.std.proofs.Common.{◌≡◌, ap, sym, ◌∙◌, true, false, cond, List, ℕ, ◌/◌, ◌%◌, pos, eqb, get_or}
 use Rattle.numbers.specs.Lists.{list_below}
 use Rattle.money.specs.declared.Cents.{Cents}
 use Rattle.money.specs.declared.area.AreaMoney.{AreaMoney}

@@ -1,14 +1,6 @@
 -- What the ranges of a unit and of a commitment bound.
-use mathlib.Core.Path.{◌≡◌, refl, ◌∙◌}
-use mathlib.Core.Bool.{Bool, true, false, cond}
-use mathlib.Core.Logic.{◌⊎◌, inl, inr}
-use mathlib.Core.List.{List}
-use Prim.Native.Nat.{ℕ, ◌+◌, ◌-◌, ◌≤◌, ◌<◌}
-use native.Mathlib.Nat.{mul-le-mul}
-use native.Mathlib.Omega.{arith}
-use lib.Dec.{eqb}
-use lib.ListN.{length, set}
-use borrow.Author.Tests.{eq-eqb, ne_eqb, le-leb}
+use Rattle.std.proofs.Common.{◌≡◌, refl, ◌∙◌, Bool, true, false, cond, ◌⊎◌, inl, inr, List, ℕ, ◌+◌, ◌-◌, ◌≤◌, ◌<◌, mul-le-mul, arith, eqb, length}
+use Rattle.std.proofs.Common.{set, eq-eqb, ne_eqb, le-leb}
 use Rattle.numbers.specs.Range.{within}
 use Rattle.numbers.specs.Lists.{element}
 use Rattle.numbers.proofs.Lists.{stored_at}

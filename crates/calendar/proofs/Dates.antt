@@ -1,11 +1,6 @@
 -- Dates: what being one says, the next one, and their order.
-use mathlib.Core.Path.{◌≡◌, refl}
-use mathlib.Core.Bool.{Bool, true, false, ◌&&◌, ◌||◌, and-eq-true_iff}
-use mathlib.Core.Logic.{⊎_elim}
-use Prim.Native.Nat.{ℕ, ◌+◌, ◌≤◌, ◌<◌}
-use native.Mathlib.Omega.{arith}
-use lib.Dec.{ltb, eqb}
-use borrow.Author.Tests.{ltb-true, ltb-false, eqb-true}
+use Rattle.std.proofs.Common.{◌≡◌, refl, Bool, true, false, ◌&&◌, ◌||◌, ⊎_elim, ℕ, ◌+◌, ◌≤◌, ◌<◌, arith, ltb, eqb, ltb-true, ltb-false, eqb-true}
+use mathlib.Core.Bool.{and-eq-true_iff}
 use Rattle.numbers.specs.Sum.{sum_below}
 use Rattle.numbers.proofs.Tests.{or_cases, within_from, within_to, within_holds}
 use Rattle.numbers.proofs.Sums.{sum_one_more, sum_term}

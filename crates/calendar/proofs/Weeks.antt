@@ -1,9 +1,6 @@
 -- The third Monday, and the months of the peak periods.
-use mathlib.Core.Path.{◌≡◌, refl}
-use mathlib.Core.Bool.{true, and-eq-true_iff}
-use mathlib.Core.Logic.{⊎_elim}
-use Prim.Native.Nat.{ℕ, ◌≤◌}
-use native.Mathlib.Omega.{arith}
+use Rattle.std.proofs.Common.{◌≡◌, refl, true, ⊎_elim, ℕ, ◌≤◌, arith}
+use mathlib.Core.Bool.{and-eq-true_iff}
 use Rattle.numbers.specs.Sum.{sum_below}
 use Rattle.numbers.specs.Range.{within}
 use Rattle.numbers.proofs.Tests.{or_cases, within_to}

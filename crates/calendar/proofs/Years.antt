@@ -1,12 +1,8 @@
 -- The closed form for the days before a year is the sum of the years' days, 365 or 366.
-use mathlib.Core.Path.{◌≡◌, refl}
-use mathlib.Core.Bool.{Bool, true, false, cond, not, ◌&&◌, ◌||◌}
-use Prim.Native.Nat.{ℕ, zero, suc, ◌+◌, ◌-◌, ◌*◌, ◌/◌, ◌%◌, ◌≤◌, ◌<◌}
-use native.Mathlib.Nat.{div-eq_of_lt-le, div-add-mod', mod-lt, add-mul, one-mul}
-use native.Mathlib.Numerals.{add-one}
-use native.Mathlib.Omega.{arith}
-use lib.Dec.{eqb}
-use borrow.Author.Tests.{eqb-true, eqb-false}
+use Rattle.std.proofs.Common.{◌≡◌, refl, Bool, true, false, cond, not, ◌&&◌, ◌||◌, ℕ, zero, suc, ◌+◌, ◌-◌, ◌*◌, ◌/◌, ◌%◌, ◌≤◌, ◌<◌, div-add-mod'}
+use Rattle.std.proofs.Common.{mod-lt, add-mul, one-mul, add-one, arith, eqb, eqb-true}
+use native.Mathlib.Nat.{div-eq_of_lt-le}
+use borrow.Author.Tests.{eqb-false}
 use Rattle.numbers.specs.Sum.{sum_below}
 use Rattle.numbers.proofs.Sums.{sum_grows}
 use Rattle.calendar.specs.Gregorian.{leap_year, multiples_below, days_before_year}

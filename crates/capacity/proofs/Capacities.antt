@@ -1,13 +1,9 @@
 -- Laws of T, of unforced watts, P and S, of the limit, and what the tests of ranges say.
-use mathlib.Core.Path.{◌≡◌, refl, ◌∙◌}
-use mathlib.Core.Bool.{Bool, true, false, cond, ◌&&◌}
-use Prim.Native.Nat.{ℕ, suc, ◌+◌, ◌-◌, ◌*◌, ◌<◌, ◌≤◌, max, zero-le}
-use native.Mathlib.Nat.{le_refl, le_trans, min-le_left, max-le, mul-le-mul_left, mul_comm, div-le_of_le-mul}
-use native.Mathlib.Omega.{arith}
-use lib.IntN.{ℤ, pos, negsuc, nat_abs}
-use lib.Signed.{◌≤ℤ◌, le_z_yes, ≤ℤ_refl}
-use lib.Dec.{eqb, ltb, leb→le, le→leb}
-use borrow.Author.Tests.{ltb-true, ltb-false, le-ltb, leb-true}
+use Rattle.std.proofs.Common.{◌≡◌, refl, ◌∙◌, Bool, true, false, cond, ◌&&◌, ℕ, suc, ◌+◌, ◌-◌, ◌*◌, ◌<◌, ◌≤◌, max, zero-le, le_refl, le_trans}
+use Rattle.std.proofs.Common.{mul-le-mul_left, mul_comm, arith, ℤ, pos, negsuc, nat_abs, ◌≤ℤ◌, eqb, ltb, leb→le, le→leb, ltb-true, ltb-false, le-ltb}
+use Rattle.std.proofs.Common.{leb-true}
+use native.Mathlib.Nat.{min-le_left, max-le, div-le_of_le-mul}
+use lib.Signed.{le_z_yes, ≤ℤ_refl}
 use Rattle.numbers.specs.Signed.{above}
 use Rattle.numbers.proofs.Tests.{within_from, within_to, both_true, at_most_and}
 use Rattle.numbers.proofs.Sums.{sum_same, sum_exchange, sum_picked}

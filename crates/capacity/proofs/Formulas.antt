@@ -1,10 +1,6 @@
 -- The formulas' values in range fit 64 bits, and each is what its definition says.
-use mathlib.Core.Path.{◌≡◌}
-use Prim.Native.Nat.{ℕ, ◌+◌, ◌-◌, ◌*◌, ◌/◌, ◌≤◌, ◌<◌}
-use native.Mathlib.Nat.{le_trans, not-suc-le-zero, mul-pos, mul-le-mul, div-le_self}
-use native.Mathlib.Omega.{arith}
-use lib.IntN.{ℤ, pos, negsuc}
-use borrow.Author.Tests.{lt-ltb}
+use Rattle.std.proofs.Common.{◌≡◌, ℕ, ◌+◌, ◌-◌, ◌*◌, ◌/◌, ◌≤◌, ◌<◌, le_trans, not-suc-le-zero, mul-pos, mul-le-mul, div-le_self, arith, ℤ, pos}
+use Rattle.std.proofs.Common.{negsuc, lt-ltb}
 use Rattle.numbers.specs.Signed.{above}
 use Rattle.capacity.specs.declared.rating.Rating.{Rating}
 use Rattle.capacity.specs.declared.rating.HourCounts.{HourCounts}

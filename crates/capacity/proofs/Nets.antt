@@ -1,11 +1,5 @@
 -- Laws of signs and of a unit's shares.
-use mathlib.Core.Path.{◌≡◌, refl, ap}
-use mathlib.Core.List.{List}
-use mathlib.Core.Bool.{Bool, true, false, cond, ◌&&◌}
-use Prim.Native.Nat.{ℕ, ◌-◌, ◌*◌, ◌^◌, ◌<◌, min}
-use native.Mathlib.Nat.{zero-mul}
-use native.Mathlib.Omega.{arith}
-use lib.IntN.{ℤ, pos, nat_abs}
+use Rattle.std.proofs.Common.{◌≡◌, refl, ap, List, Bool, true, false, cond, ◌&&◌, ℕ, ◌-◌, ◌*◌, ◌^◌, ◌<◌, min, zero-mul, arith, ℤ, pos, nat_abs}
 use Rattle.numbers.specs.Lists.{list_below, element}
 use Rattle.numbers.specs.Split.{with_sign, split_signed}
 use Rattle.numbers.proofs.Tests.{both_true}

@@ -1,12 +1,7 @@
 -- Laws of an area's money.
-use mathlib.Core.Path.{◌≡◌, refl, ◌∙◌}
-use mathlib.Core.Bool.{Bool, true, false, and-true}
-use Prim.Native.Nat.{ℕ, ◌+◌, ◌≤◌, min}
-use native.Mathlib.Nat.{le_refl}
-use native.Mathlib.Omega.{arith}
-use lib.IntN.{ℤ, pos}
-use lib.Dec.{eqb, ltb}
-use borrow.Author.Tests.{ltb-true, ltb-false, eqb-false}
+use Rattle.std.proofs.Common.{◌≡◌, refl, ◌∙◌, Bool, true, false, ℕ, ◌+◌, ◌≤◌, min, le_refl, arith, ℤ, pos, eqb, ltb, ltb-true, ltb-false}
+use mathlib.Core.Bool.{and-true}
+use borrow.Author.Tests.{eqb-false}
 use Rattle.numbers.specs.Sum.{sum_below}
 use Rattle.numbers.specs.Signed.{sum_below_ℤ}
 use Rattle.numbers.specs.Split.{split}

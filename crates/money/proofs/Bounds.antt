@@ -1,11 +1,7 @@
 -- What an area's facts in range have, and why 64 bits are enough for its money.
-use mathlib.Core.Path.{◌≡◌}
-use mathlib.Core.Bool.{true}
-use Prim.Native.Nat.{ℕ, zero, suc, ◌+◌, ◌*◌, ◌^◌, ◌≤◌, ◌<◌, zero-le}
-use native.Mathlib.Nat.{le_trans, add-mul, mul-le-mul, div-le_of_le-mul}
-use native.Mathlib.Omega.{arith}
-use lib.IntN.{ℤ, nat_abs, ◌-ℤ◌}
-use borrow.Author.Tests.{leb-true}
+use Rattle.std.proofs.Common.{◌≡◌, true, ℕ, zero, suc, ◌+◌, ◌*◌, ◌^◌, ◌≤◌, ◌<◌, zero-le, le_trans, add-mul, mul-le-mul, arith, ℤ, nat_abs, ◌-ℤ◌}
+use Rattle.std.proofs.Common.{leb-true}
+use native.Mathlib.Nat.{div-le_of_le-mul}
 use Rattle.numbers.specs.Sum.{sum_below}
 use Rattle.numbers.specs.Signed.{above, below}
 use Rattle.numbers.specs.Split.{split}

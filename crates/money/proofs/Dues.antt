@@ -1,11 +1,6 @@
 -- From nets to dues, list by list: what each step of an area's money holds, by the definitions.
-use mathlib.Core.Path.{◌≡◌, refl, ap, ◌∙◌}
-use mathlib.Core.Bool.{Bool, true, false, cond, ◌&&◌}
-use mathlib.Core.List.{List}
-use Prim.Native.Nat.{ℕ, ◌+◌, ◌-◌, ◌^◌, ◌<◌}
-use native.Mathlib.Omega.{arith}
-use lib.IntN.{ℤ, pos, sub_ℕ}
-use lib.Dec.{ltb, eqb}
+use Rattle.std.proofs.Common.{◌≡◌, refl, ap, ◌∙◌, Bool, true, false, cond, ◌&&◌, List, ℕ, ◌+◌, ◌-◌, ◌^◌, ◌<◌, arith, ℤ, pos, ltb, eqb}
+use lib.IntN.{sub_ℕ}
 use Rattle.numbers.specs.Lists.{element, list_below}
 use Rattle.numbers.specs.Sum.{sum_below}
 use Rattle.numbers.specs.Signed.{above}

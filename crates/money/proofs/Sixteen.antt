@@ -1,7 +1,5 @@
 -- What goes by the sixteen parties only: an area's money by their nets and obligations, a unit's shares by their parts.
-use mathlib.Core.Path.{◌≡◌, ap}
-use Prim.Native.Nat.{ℕ, ◌<◌}
-use lib.IntN.{ℤ}
+use Rattle.std.proofs.Common.{◌≡◌, ap, ℕ, ◌<◌, ℤ}
 use Rattle.numbers.specs.Signed.{above, below}
 use Rattle.numbers.proofs.Sums.{sum_same}
 use Rattle.numbers.proofs.Lists.{list_same}

@@ -1,12 +1,7 @@
 -- Laws of sums that stop at the greatest number.
-use mathlib.Core.Path.{◌≡◌, refl, ap, ◌∙◌}
-use mathlib.Core.Bool.{Bool, true, false}
-use mathlib.Core.List.{List}
-use Prim.Native.Nat.{◌≤◌, ℕ, ◌+◌, ◌-◌, ◌^◌, ◌<◌, min}
-use native.Mathlib.Omega.{arith}
-use lib.Dec.{eqb, leb}
-use lib.ListN.{length}
-use borrow.Author.Tests.{le-leb, lt-leb, leb-true, leb-false, eqb-true, eqb-false, eq-eqb, ne_eqb}
+use Rattle.std.proofs.Common.{◌≡◌, refl, ap, ◌∙◌, Bool, true, false, List, ◌≤◌, ℕ, ◌+◌, ◌-◌, ◌^◌, ◌<◌, min, arith, eqb, leb, length, le-leb, leb-true}
+use Rattle.std.proofs.Common.{leb-false, eqb-true, eq-eqb, ne_eqb}
+use borrow.Author.Tests.{lt-leb, eqb-false}
 use Rattle.numbers.specs.Sum.{sum_below}
 use Rattle.numbers.specs.Lists.{list_below, element}
 use Rattle.numbers.proofs.Sums.{sum_one_more}

@@ -1,13 +1,9 @@
 -- One turn of a split's loop, and what its tests say.
-use mathlib.Core.Path.{◌≡◌, refl, sym, ap, ◌∙◌}
-use mathlib.Core.Bool.{Bool, true, false, cond, ◌&&◌}
-use mathlib.Core.List.{List}
-use Prim.Native.Nat.{ℕ, zero, suc, ◌+◌, ◌-◌, ◌*◌, ◌/◌, ◌^◌, ◌≤◌, ◌<◌, min}
-use native.Mathlib.Nat.{mul_comm, mul-le-mul_left, le-mul_of_pos_right, le-div_iff_mul-le, div-lt_iff_lt-mul}
-use native.Mathlib.Omega.{arith}
-use lib.Dec.{ltb, leb}
-use lib.ListN.{length, get_or-eq_default}
-use borrow.Author.Tests.{ltb-true, ltb-false, lt-ltb, le-leb, lt-leb}
+use Rattle.std.proofs.Common.{◌≡◌, refl, sym, ap, ◌∙◌, Bool, true, false, cond, ◌&&◌, List, ℕ, zero, suc, ◌+◌, ◌-◌, ◌*◌, ◌/◌, ◌^◌, ◌≤◌, ◌<◌, min}
+use Rattle.std.proofs.Common.{mul_comm, mul-le-mul_left, le-mul_of_pos_right, le-div_iff_mul-le, div-lt_iff_lt-mul, arith, ltb, leb, length, ltb-true}
+use Rattle.std.proofs.Common.{ltb-false, lt-ltb, le-leb}
+use lib.ListN.{get_or-eq_default}
+use borrow.Author.Tests.{lt-leb}
 use Rattle.numbers.specs.Sum.{sum_below}
 use Rattle.numbers.specs.Lists.{list_below, element}
 use Rattle.numbers.specs.Split.{first_shares, split, split_answer}

@@ -1,15 +1,9 @@
 -- Laws of lists by their elements, and of a loop that fills an array from its start.
-use mathlib.Core.Path.{◌≡◌, refl, sym, ap, ◌∙◌}
-use mathlib.Core.List.{List, [], ◌∷◌, ◌++◌}
-use mathlib.Core.Bool.{Bool, true, false, cond}
-use Prim.Native.Nat.{ℕ, zero, suc, ◌+◌, ◌≤◌, ◌<◌}
-use native.Mathlib.Nat.{not-suc-le-zero, add-zero}
-use native.Mathlib.Numerals.{add-one}
-use native.Mathlib.Omega.{arith}
-use lib.Dec.{ltb, eqb}
-use lib.ListN.{length, get_or, set, take, length-append, length-set, get_or-append, get_or-eq_default}
-use lib.Seq.{take-suc-set, take_all, get_or-append-add, get_or-set_same, get_or-set_other}
-use borrow.Author.Tests.{ltb-true, ltb-false, eqb-true, eqb-false}
+use Rattle.std.proofs.Common.{◌≡◌, refl, sym, ap, ◌∙◌, List, [], ◌∷◌, ◌++◌, Bool, true, false, cond, ℕ, zero, suc, ◌+◌, ◌≤◌, ◌<◌, not-suc-le-zero}
+use Rattle.std.proofs.Common.{add-zero, add-one, arith, ltb, eqb, length, get_or, set, take, length-append, length-set, take-suc-set, take_all}
+use Rattle.std.proofs.Common.{get_or-append-add, get_or-set_same, get_or-set_other, ltb-true, ltb-false, eqb-true}
+use lib.ListN.{get_or-append, get_or-eq_default}
+use borrow.Author.Tests.{eqb-false}
 use Rattle.numbers.specs.Sum.{sum_below}
 use Rattle.numbers.specs.Lists.{list_below, element}
 use Rattle.numbers.proofs.Sums.{sum_same}

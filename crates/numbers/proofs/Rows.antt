@@ -1,5 +1,5 @@
 -- Laws of tables of figures.
-use mathlib.Core.List.{List, [], ◌∷◌, ◌++◌, map}
+use Rattle.std.proofs.Common.{List, [], ◌∷◌, ◌++◌, map}
 use Rattle.numbers.specs.Rows.{EachGiven}
 
 -- rows under another name, before other rows

@@ -1,17 +1,10 @@
 -- Signed numbers as the machine holds them: what its tests, casts and negations say of the parts above and below zero.
-use mathlib.Core.Path.{◌≡◌, refl, sym, subst, ◌∙◌}
-use mathlib.Core.Bool.{Bool, true, false, cond}
-use Prim.Native.Nat.{ℕ, zero, suc, ◌+◌, ◌-◌, ◌^◌, ◌≤◌, ◌<◌}
-use native.Mathlib.Nat.{not-suc-le-zero}
-use native.Mathlib.Numerals.{add-one}
-use native.Mathlib.Omega.{arith}
-use lib.IntN.{ℤ, pos, negsuc, neg_ℤ, nat_abs, sub_ℕ, ◌+ℤ◌, ◌-ℤ◌, +ℤ_one, +ℤ_idl, neg_ℤ-neg_ℤ}
+use Rattle.std.proofs.Common.{◌≡◌, refl, sym, subst, ◌∙◌, Bool, true, false, cond, ℕ, zero, suc, ◌+◌, ◌-◌, ◌^◌, ◌≤◌, ◌<◌, not-suc-le-zero, add-one}
+use Rattle.std.proofs.Common.{arith, ℤ, pos, negsuc, neg_ℤ, nat_abs, ◌+ℤ◌, ◌-ℤ◌, T, ltb, w64, Fits, SFits, to_z, of_z, to_z-of_z, ltb-true, ltb-false}
+use Rattle.std.proofs.Common.{lt-ltb, le-ltb}
+use lib.IntN.{sub_ℕ, +ℤ_one, +ℤ_idl, neg_ℤ-neg_ℤ}
 use lib.Signed.{mag, lt_z, non_neg}
-use lib.Dec.{T, ltb}
-use mir.Syntax.{w64}
-use mir.Val.{Fits, SFits, to_z, of_z}
-use mir.Facts.{to_z-of_z, to_z_pos}
-use borrow.Author.Tests.{ltb-true, ltb-false, lt-ltb, le-ltb}
+use mir.Facts.{to_z_pos}
 use Rattle.numbers.specs.Signed.{above, below, difference_answer}
 
 -- a signed local, read back from its bits

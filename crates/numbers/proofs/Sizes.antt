@@ -1,12 +1,8 @@
 -- Laws of the sizes of signed amounts, of differences and of sums.
-use mathlib.Core.Path.{◌≡◌, refl}
-use mathlib.Core.Bool.{cond, ◌&&◌}
-use Prim.Native.Nat.{ℕ, zero, suc, ◌+◌, ◌≤◌, ◌<◌, max, zero-le}
-use native.Mathlib.Nat.{le_refl}
-use native.Mathlib.Omega.{arith}
-use lib.IntN.{ℤ, pos, negsuc, nat_abs, sub_ℕ, neg_ℤ, ◌+ℤ◌, ◌-ℤ◌}
-use lib.Dec.{leb}
-use borrow.Author.Tests.{le-leb, lt-leb}
+use Rattle.std.proofs.Common.{◌≡◌, refl, cond, ◌&&◌, ℕ, zero, suc, ◌+◌, ◌≤◌, ◌<◌, max, zero-le, le_refl, arith, ℤ, pos, negsuc, nat_abs, neg_ℤ, ◌+ℤ◌}
+use Rattle.std.proofs.Common.{◌-ℤ◌, leb, le-leb}
+use lib.IntN.{sub_ℕ}
+use borrow.Author.Tests.{lt-leb}
 use Rattle.numbers.specs.Sum.{sum_below}
 use Rattle.numbers.specs.Signed.{above, below, sum_below_ℤ}
 use Rattle.numbers.specs.Split.{split, with_sign, split_signed}

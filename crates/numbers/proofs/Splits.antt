@@ -1,12 +1,10 @@
 -- Laws of the split.
-use mathlib.Core.Path.{◌≡◌, refl, sym, ◌∙◌}
-use Prim.Native.Nat.{ℕ, zero, suc, ◌+◌, ◌*◌, ◌/◌, ◌≤◌, ◌<◌, min, zero-le}
-use native.Mathlib.Nat.{le_refl, le_trans, mul_comm, mul-zero, zero-mul, mul-add, mul-le-mul_left, div-zero, zero-div, div-mul-le_self, le-div_iff_mul-le}
-use native.Mathlib.Nat.{div-le_of_le-mul, mul-div_cancel, add-mul-div_right}
-use native.Mathlib.Numerals.{add-one}
-use native.Mathlib.Omega.{arith}
-use lib.IntN.{ℤ, pos, negsuc, sub_ℕ}
-use lib.Signed.{◌≤ℤ◌}
+use Rattle.std.proofs.Common.{◌≡◌, refl, sym, ◌∙◌, ℕ, zero, suc, ◌+◌, ◌*◌, ◌/◌, ◌≤◌, ◌<◌, min, zero-le, le_refl, le_trans, mul_comm, mul-zero}
+use Rattle.std.proofs.Common.{zero-mul, mul-add, mul-le-mul_left, div-mul-le_self, le-div_iff_mul-le, mul-div_cancel, add-one, arith, ℤ, pos, negsuc}
+use Rattle.std.proofs.Common.{◌≤ℤ◌}
+use native.Mathlib.Nat.{div-zero, zero-div}
+use native.Mathlib.Nat.{div-le_of_le-mul, add-mul-div_right}
+use lib.IntN.{sub_ℕ}
 use Rattle.numbers.specs.Sum.{sum_below}
 use Rattle.numbers.specs.Signed.{above, below, sum_below_ℤ}
 use Rattle.numbers.specs.Split.{first_shares, split, with_sign, split_signed}

@@ -1,12 +1,7 @@
 -- Laws of finite sums.
-use mathlib.Core.Path.{◌≡◌, refl, sym, ◌∙◌}
-use mathlib.Core.Bool.{Bool, true, false, cond}
-use Prim.Native.Nat.{ℕ, zero, suc, ◌+◌, ◌≤◌, ◌<◌, ◌*◌}
-use native.Mathlib.Nat.{le_refl, not-suc-le-zero, suc-mul, zero-mul, mul-le-mul_right}
-use native.Mathlib.Numerals.{add-one}
-use native.Mathlib.Omega.{arith}
-use lib.Dec.{leb, eqb}
-use borrow.Author.Tests.{leb-true, leb-false, eqb-true, eqb-false, ne_eqb}
+use Rattle.std.proofs.Common.{◌≡◌, refl, sym, ◌∙◌, Bool, true, false, cond, ℕ, zero, suc, ◌+◌, ◌≤◌, ◌<◌, ◌*◌, le_refl, not-suc-le-zero, suc-mul}
+use Rattle.std.proofs.Common.{zero-mul, mul-le-mul_right, add-one, arith, leb, eqb, leb-true, leb-false, eqb-true, ne_eqb}
+use borrow.Author.Tests.{eqb-false}
 use Rattle.numbers.specs.Sum.{sum_below}
 
 pub sum_one_more : (n : ℕ) (f : ℕ → ℕ) → sum_below (n + 1) f ≡ sum_below n f + f n

@@ -1,12 +1,8 @@
 -- What a test that passed says: of its parts, of a range, and of all numbers below n by one test that antt computes.
-use mathlib.Core.Path.{◌≡◌, refl, sym, ◌∙◌}
-use mathlib.Core.Bool.{Bool, true, false, ◌&&◌, ◌||◌, and-eq-true_iff, cond}
-use mathlib.Core.Logic.{◌⊎◌, inl, inr}
-use Prim.Native.Nat.{◌+◌, ◌-◌, ℕ, zero, suc, ◌≤◌, ◌<◌}
-use native.Mathlib.Nat.{not-suc-le-zero}
-use native.Mathlib.Omega.{arith}
-use lib.Dec.{leb, eqb, ltb}
-use borrow.Author.Tests.{eqb-true, eqb-false, leb-true, le-leb, ne_eqb, lt-ltb, le-ltb, lt-leb, eq-eqb, leb-false}
+use Rattle.std.proofs.Common.{◌≡◌, refl, sym, ◌∙◌, Bool, true, false, ◌&&◌, ◌||◌, cond, ◌⊎◌, inl, inr, ◌+◌, ◌-◌, ℕ, zero, suc, ◌≤◌, ◌<◌}
+use Rattle.std.proofs.Common.{not-suc-le-zero, arith, leb, eqb, ltb, eqb-true, leb-true, le-leb, ne_eqb, lt-ltb, le-ltb, eq-eqb, leb-false}
+use mathlib.Core.Bool.{and-eq-true_iff}
+use borrow.Author.Tests.{eqb-false, lt-leb}
 use Rattle.numbers.specs.Range.{within}
 
 pub or_cases : (a b : Bool) → (a || b) ≡ true → (a ≡ true) ⊎ (b ≡ true)

@@ -1,13 +1,8 @@
 -- What every list of accepted records satisfies, by the rows of refusal alone.
-use mathlib.Core.Path.{◌≡◌, refl, sym}
-use mathlib.Core.Bool.{Bool, true, false, cond, and-true}
-use mathlib.Core.Logic.{◌⊎◌, inl, inr}
-use mathlib.Core.List.{List, [], ◌∷◌}
-use Prim.Native.Nat.{ℕ, ◌+◌, ◌<◌}
-use native.Mathlib.Omega.{arith}
-use lib.IntN.{ℤ, pos}
-use lib.Dec.{eqb}
-use borrow.Author.Tests.{ltb-true, leb-false, eqb-true, eqb-false, not-false}
+use Rattle.std.proofs.Common.{◌≡◌, refl, sym, Bool, true, false, cond, ◌⊎◌, inl, inr, List, [], ◌∷◌, ℕ, ◌+◌, ◌<◌, arith, ℤ, pos, eqb, ltb-true}
+use Rattle.std.proofs.Common.{leb-false, eqb-true}
+use mathlib.Core.Bool.{and-true}
+use borrow.Author.Tests.{eqb-false, not-false}
 use Rattle.numbers.specs.Range.{within}
 use Rattle.numbers.specs.Lists.{element}
 use Rattle.numbers.specs.Signed.{sum_below_ℤ}

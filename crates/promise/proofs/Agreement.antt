@@ -1,13 +1,8 @@
 -- A book and a list of accepted records that hold the same, field by field.
-use mathlib.Core.Path.{◌≡◌, refl, ap, ◌∙◌}
-use mathlib.Core.Bool.{Bool, true, false, cond, ◌&&◌, and-false}
-use mathlib.Core.List.{List, [], ◌∷◌}
-use Prim.Native.Nat.{ℕ, ◌+◌, ◌/◌, ◌%◌, ◌<◌}
-use native.Mathlib.Omega.{arith}
-use lib.IntN.{pos}
-use lib.Dec.{eqb, ltb}
-use lib.ListN.{length, get_or, set}
-use borrow.Author.Tests.{ltb-true, ltb-false, eqb-true, eqb-false, eq-eqb, ne_eqb}
+use Rattle.std.proofs.Common.{◌≡◌, refl, ap, ◌∙◌, Bool, true, false, cond, ◌&&◌, List, [], ◌∷◌, ℕ, ◌+◌, ◌/◌, ◌%◌, ◌<◌, arith, pos, eqb, ltb, length}
+use Rattle.std.proofs.Common.{get_or, set, ltb-true, ltb-false, eqb-true, eq-eqb, ne_eqb}
+use mathlib.Core.Bool.{and-false}
+use borrow.Author.Tests.{eqb-false}
 use Rattle.numbers.specs.Range.{within}
 use Rattle.numbers.specs.Lists.{list_below}
 use Rattle.numbers.proofs.Tests.{within_from, within_to}

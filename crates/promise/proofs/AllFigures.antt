@@ -1,7 +1,5 @@
 -- The definitions give figures a to j.
-use mathlib.Core.List.{map, List, [], ◌∷◌, ◌++◌}
-use mathlib.Core.Path.{refl}
-use Prim.Native.Nat.{ℕ}
+use Rattle.std.proofs.Common.{map, List, [], ◌∷◌, ◌++◌, refl, ℕ}
 use Rattle.numbers.specs.Range.{within}
 use Rattle.numbers.specs.Rows.{EachGiven}
 use Rattle.numbers.specs.Lists.{list_below}

@@ -1,13 +1,7 @@
 -- The worked example of 01, The ledger program: its facts, nets and dues.
-use mathlib.Core.Path.{◌≡◌, refl, sym, ap, ◌∙◌}
-use mathlib.Core.Bool.{Bool, true, false, cond}
-use mathlib.Core.List.{List, [], ◌∷◌}
-use Prim.Native.Nat.{ℕ, zero, suc, ◌+◌, ◌<◌}
-use native.Mathlib.Omega.{arith}
-use lib.IntN.{ℤ, pos, neg_ℤ, ◌+ℤ◌, +ℤ_idr}
-use lib.Dec.{eqb}
-use lib.ListN.{get_or}
-use borrow.Author.Tests.{ne_eqb}
+use Rattle.std.proofs.Common.{◌≡◌, refl, sym, ap, ◌∙◌, Bool, true, false, cond, List, [], ◌∷◌, ℕ, zero, suc, ◌+◌, ◌<◌, arith, ℤ, pos, neg_ℤ, ◌+ℤ◌}
+use Rattle.std.proofs.Common.{eqb, get_or, ne_eqb}
+use lib.IntN.{+ℤ_idr}
 use Rattle.numbers.specs.Sum.{sum_below}
 use Rattle.numbers.specs.Range.{within}
 use Rattle.numbers.specs.Lists.{list_below, element}

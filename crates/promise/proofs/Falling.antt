@@ -1,10 +1,7 @@
 -- A unit's hours, newest first, each later than the one before it: two such lists with the same set of records are the same.
-use mathlib.Core.Path.{◌≡◌, refl, sym, ap, ◌∙◌}
-use mathlib.Core.Logic.{◌⊎◌, inl, inr, ◌↔◌}
+use Rattle.std.proofs.Common.{◌≡◌, refl, sym, ap, ◌∙◌, ◌⊎◌, inl, inr, ◌↔◌, List, [], ◌∷◌, ℕ, ◌≤◌, ◌<◌, arith}
 use mathlib.Core.List.Memᴰ
-use mathlib.Core.List.{List, [], ◌∷◌, Memᴰ}
-use Prim.Native.Nat.{ℕ, ◌≤◌, ◌<◌}
-use native.Mathlib.Omega.{arith}
+use mathlib.Core.List.{Memᴰ}
 use Rattle.records.specs.declared.format.HourRecord.{HourRecord}
 use Rattle.rules.specs.Hours.{hour_index}
 use Rattle.promise.specs.Reckoning.{last_index}

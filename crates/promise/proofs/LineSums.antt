@@ -1,8 +1,6 @@
 -- The reckoning's lines add up to what it calls paid.
-use mathlib.Core.Path.{refl, sym, ◌∙◌}
-use Prim.Native.Nat.{◌+◌}
-use lib.IntN.{◌-ℤ◌, +ℤ_comm, -ℤ-+ℤ_cancel}
-use borrow.Author.Tests.{eq-eqb}
+use Rattle.std.proofs.Common.{refl, sym, ◌∙◌, ◌+◌, ◌-ℤ◌, eq-eqb}
+use lib.IntN.{+ℤ_comm, -ℤ-+ℤ_cancel}
 use Rattle.money.specs.Lines.{line}
 use Rattle.promise.specs.Reckoning.{reckoned_due, reckoned_paid, reckoned_line}
 use Rattle.promise.specs.Laws.{LinesAddUp}

@@ -1,10 +1,5 @@
 -- The book and the list, string after string: every book reached is sound and holds what the list holds.
-use mathlib.Core.Path.{◌≡◌, refl, sym, ap, ◌∙◌}
-use mathlib.Core.Bool.{Bool, true, false}
-use mathlib.Core.List.{List, [], ◌∷◌}
-use Prim.Native.Nat.{ℕ}
-use lib.Dec.{eqb}
-use borrow.Author.Tests.{eqb-true}
+use Rattle.std.proofs.Common.{◌≡◌, refl, sym, ap, ◌∙◌, Bool, true, false, List, [], ◌∷◌, ℕ, eqb, eqb-true}
 use Rattle.records.specs.Decoded.{decoded}
 use Rattle.records.specs.declared.format.Record.{Record}
 use Rattle.rules.specs.Rules.{asked, refusal}

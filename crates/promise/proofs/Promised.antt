@@ -1,11 +1,8 @@
 -- Demand 3: the four parts of the promise.
-use mathlib.Core.Path.{◌≡◌, refl, sym, ◌∙◌}
-use mathlib.Core.Bool.{true, cond, true≢false}
-use mathlib.Core.Logic.{◌⊎◌, inl, inr}
+use Rattle.std.proofs.Common.{◌≡◌, refl, sym, ◌∙◌, true, cond, true≢false, ◌⊎◌, inl, inr, List, [], ◌∷◌, map, ℕ, ◌<◌, pos, ◌+ℤ◌}
 use mathlib.Core.List.Memᴰ
-use mathlib.Core.List.{List, [], ◌∷◌, map, Memᴰ}
-use Prim.Native.Nat.{ℕ, ◌<◌}
-use lib.IntN.{pos, ◌+ℤ◌, +ℤ_idl, +ℤ_idr, +ℤ_assoc}
+use mathlib.Core.List.{Memᴰ}
+use lib.IntN.{+ℤ_idl, +ℤ_idr, +ℤ_assoc}
 use Rattle.numbers.specs.Signed.{sum_below_ℤ}
 use Rattle.records.specs.declared.format.Record.{Record}
 use Rattle.records.specs.Format.{party_count}

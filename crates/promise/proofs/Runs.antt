@@ -1,10 +1,5 @@
 -- No string more and one string more, fed to the fresh reckoning.
-use mathlib.Core.Path.{◌≡◌, refl}
-use mathlib.Core.Bool.{false}
-use mathlib.Core.List.{List, [], ◌∷◌}
-use Prim.Native.Nat.{ℕ, ◌-◌}
-use lib.IntN.{ℤ, pos}
-use lib.Dec.{eqb}
+use Rattle.std.proofs.Common.{◌≡◌, refl, false, List, [], ◌∷◌, ℕ, ◌-◌, ℤ, pos, eqb}
 use Rattle.numbers.specs.Lists.{list_below}
 use Rattle.records.specs.declared.format.Record.{Record}
 use Rattle.records.specs.Format.{party_count}

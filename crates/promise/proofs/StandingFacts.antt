@@ -1,7 +1,5 @@
 -- Dues depend on the standing facts alone.
-use mathlib.Core.Path.{◌≡◌, ap}
-use mathlib.Core.List.{List}
-use Prim.Native.Nat.{ℕ}
+use Rattle.std.proofs.Common.{◌≡◌, ap, List, ℕ}
 use Rattle.records.specs.declared.format.Record.{Record}
 use Rattle.rules.specs.Facts.{Facts}
 use Rattle.rules.specs.Dues.{due_in}

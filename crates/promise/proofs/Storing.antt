@@ -1,20 +1,13 @@
 -- Strings of a slice of bytes, and values stored one after another.
-use mathlib.Core.Path.{◌≡◌, refl, sym, ap, ◌∙◌}
-use mathlib.Core.Bool.{Bool, true, false}
-use mathlib.Core.List.{List, [], ◌∷◌, ◌++◌, map, flat_map}
-use Prim.Native.Nat.{ℕ, suc, ◌+◌, ◌-◌, ◌≤◌, ◌<◌, ◌^◌, min}
+use Rattle.std.proofs.Common.{◌≡◌, refl, sym, ap, ◌∙◌, Bool, true, false, List, [], ◌∷◌, ◌++◌, map, ℕ, suc, ◌+◌, ◌-◌, ◌≤◌, ◌<◌, ◌^◌, min}
+use Rattle.std.proofs.Common.{add-one, arith, ℤ, pos, leb, length, get_or, take, drop, set, length-drop, length-set, drop_of_length-le, take_all}
+use Rattle.std.proofs.Common.{drop-cons, w64, to_z, of_z, to_z-of_z, leb-true, leb-false}
 use native.Mathlib.Nat.{min-eq_left, min-eq_right}
-use native.Mathlib.Numerals.{add-one, unary_clauses}
-use native.Mathlib.Omega.{arith}
-use lib.IntN.{ℤ, pos}
+use mathlib.Core.List.{flat_map}
+use native.Mathlib.Numerals.{unary_clauses}
 use lib.Signed.{mag}
-use lib.Dec.{leb}
-use lib.ListN.{length, get_or, take, drop, set, length-drop, length-set, drop_of_length-le, length-map, get_or-map}
-use lib.Seq.{take_all, drop-cons, set_out}
-use mir.Syntax.{w64}
-use mir.Val.{to_z, of_z}
-use mir.Facts.{to_z-of_z}
-use borrow.Author.Tests.{leb-true, leb-false}
+use lib.ListN.{length-map, get_or-map}
+use lib.Seq.{set_out}
 use Rattle.money.specs.declared.Cents.{Cents}
 use Rattle.money.specs.Quantities.{cents}
 use Rattle.book.specs.declared.Book.{Book}

@@ -1,12 +1,5 @@
 -- The sixteen parties' parts of a unit's V add up to V: every accepted Commitment has one of the sixteen parties.
-use mathlib.Core.Path.{◌≡◌, refl, sym, ap, ◌∙◌}
-use mathlib.Core.Bool.{Bool, true, false, cond}
-use mathlib.Core.Logic.{inl, inr}
-use mathlib.Core.List.{List, []}
-use Prim.Native.Nat.{ℕ, ◌+◌}
-use native.Mathlib.Omega.{arith}
-use lib.Dec.{eqb}
-use borrow.Author.Tests.{ne_eqb}
+use Rattle.std.proofs.Common.{◌≡◌, refl, sym, ap, ◌∙◌, Bool, true, false, cond, inl, inr, List, [], ℕ, ◌+◌, arith, eqb, ne_eqb}
 use Rattle.numbers.proofs.Sums.{sum_same}
 use Rattle.numbers.proofs.Tests.{flipped}
 use Rattle.capacity.specs.Shortfall.{unit_watt_days, part_of, watt_days_of}

@@ -1,9 +1,6 @@
 -- Any list of strings is that of a log.
-use mathlib.Core.Path.{◌≡◌, refl, sym}
-use mathlib.Core.List.{List, [], ◌∷◌, ◌++◌, append_assoc, flatten}
-use Prim.Native.Nat.{ℕ, ◌+◌, ◌-◌}
-use native.Mathlib.Omega.{arith}
-use lib.ListN.{length, take, drop, length-append}
+use Rattle.std.proofs.Common.{◌≡◌, refl, sym, List, [], ◌∷◌, ◌++◌, append_assoc, ℕ, ◌+◌, ◌-◌, arith, length, take, drop, length-append}
+use mathlib.Core.List.{flatten}
 use lib.Seq.{take-append_seam, drop-append_seam}
 use Rattle.promise.specs.Logs.{strings_from, ends_from}
 use Rattle.promise.specs.Laws.{EveryLog}

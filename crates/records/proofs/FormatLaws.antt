@@ -1,14 +1,8 @@
 -- Laws of the format and of the next record.
-use mathlib.Core.Path.{◌≡◌, refl, sym, subst, ◌∙◌}
-use mathlib.Core.Bool.{Bool, true, false, cond, not, ◌||◌}
-use mathlib.Core.List.{List, ◌++◌}
-use Prim.Native.Nat.{ℕ, ◌+◌, ◌≤◌, ◌<◌}
+use Rattle.std.proofs.Common.{◌≡◌, refl, sym, subst, ◌∙◌, Bool, true, false, cond, not, ◌||◌, List, ◌++◌, ℕ, ◌+◌, ◌≤◌, ◌<◌, arith, eqb, ltb, length}
+use Rattle.std.proofs.Common.{take, get_or, length-take, length-take-le, get_or-take, ltb-true, ltb-false, lt-ltb, le-ltb, eq-eqb, ne_eqb}
 use native.Mathlib.Nat.{min-le_right}
-use native.Mathlib.Omega.{arith}
-use lib.Dec.{eqb, ltb}
-use lib.ListN.{length, take, get_or, length-take, get_or-append}
-use lib.Seq.{length-take-le, get_or-take}
-use borrow.Author.Tests.{ltb-true, ltb-false, lt-ltb, le-ltb, eq-eqb, ne_eqb}
+use lib.ListN.{get_or-append}
 use Rattle.records.specs.declared.stream.Next.{Next}
 use Rattle.records.specs.declared.stream.Next.TheVariants.{Whole, Broken, Partial}
 use Rattle.records.specs.Format.{number_at, formats}

@@ -1,12 +1,7 @@
 -- What the frame of a string says of its length.
-use mathlib.Core.Path.{◌≡◌, refl, sym, ◌∙◌}
-use mathlib.Core.Bool.{Bool, true, false, cond, not, ◌||◌, true≢false}
-use mathlib.Core.List.{List}
-use Prim.Native.Nat.{ℕ, ◌+◌}
-use native.Mathlib.Omega.{arith}
-use lib.Dec.{eqb, ltb}
-use lib.ListN.{length}
-use borrow.Author.Tests.{eq-eqb, ne_eqb, eqb-true, eqb-false, not-false}
+use Rattle.std.proofs.Common.{◌≡◌, refl, sym, ◌∙◌, Bool, true, false, cond, not, ◌||◌, true≢false, List, ℕ, ◌+◌, arith, eqb, ltb, length, eq-eqb}
+use Rattle.std.proofs.Common.{ne_eqb, eqb-true}
+use borrow.Author.Tests.{eqb-false, not-false}
 use Rattle.records.specs.declared.format.HourRecord.{HourRecord}
 use Rattle.records.specs.declared.format.Fault.TheVariants.{Broken, WrongLength}
 use Rattle.records.specs.declared.format.Record.{Record}

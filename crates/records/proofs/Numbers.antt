@@ -1,9 +1,5 @@
 -- A number of a string from the numbers of its halves.
-use mathlib.Core.Path.{◌≡◌, ap}
-use mathlib.Core.List.{List}
-use Prim.Native.Nat.{ℕ, ◌+◌, ◌*◌}
-use native.Mathlib.Omega.{arith}
-use lib.ListN.{get_or}
+use Rattle.std.proofs.Common.{◌≡◌, ap, List, ℕ, ◌+◌, ◌*◌, arith, get_or}
 use Rattle.records.specs.Format.{number_at}
 
 module _ (s : List ℕ) (from : ℕ) where

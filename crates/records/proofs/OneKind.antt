@@ -1,11 +1,5 @@
 -- A record of a known tag is what its numbers make.
-use mathlib.Core.Path.{◌≡◌, refl, ap, ◌∙◌}
-use mathlib.Core.Bool.{Bool, true, false, cond}
-use mathlib.Core.List.{List}
-use Prim.Native.Nat.{ℕ, ◌<◌}
-use native.Mathlib.Omega.{arith}
-use lib.Dec.{T, eqb, ltb}
-use borrow.Author.Tests.{eqb-true, ltb-true}
+use Rattle.std.proofs.Common.{◌≡◌, refl, ap, ◌∙◌, Bool, true, false, cond, List, ℕ, ◌<◌, arith, T, eqb, ltb, eqb-true, ltb-true}
 use Rattle.numbers.specs.Lists.{element}
 use Rattle.records.specs.declared.format.Fault.TheVariants.{Broken}
 use Rattle.records.specs.declared.format.Record.{Record}

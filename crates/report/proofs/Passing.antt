@@ -1,15 +1,9 @@
 -- A pass over a buffer, record by record: hours in a row are so many records tried, counted, and nothing is printed.
-use mathlib.Core.Path.{◌≡◌, refl, sym, ap, ◌∙◌}
-use mathlib.Core.Bool.{Bool, true, false, cond, ◌&&◌, false≢true}
-use mathlib.Core.List.{List, [], ◌∷◌, append-nil}
-use Prim.Native.Nat.{ℕ, zero, suc, ◌+◌, ◌*◌, ◌-◌, ◌/◌, ◌^◌, ◌≤◌, ◌<◌}
-use native.Mathlib.Nat.{add-zero, le_refl, min-eq_left}
-use native.Mathlib.Numerals.{add-one}
-use native.Mathlib.Omega.{arith}
-use lib.Dec.{leb, eqb, ltb}
-use lib.ListN.{length, take, drop, length-drop}
-use lib.Seq.{length-take-le, take_all}
-use borrow.Author.Tests.{eqb-true, ne_eqb, ltb-true, lt-ltb, le-ltb, leb-true, le-leb}
+use Rattle.std.proofs.Common.{◌≡◌, refl, sym, ap, ◌∙◌, Bool, true, false, cond, ◌&&◌, List, [], ◌∷◌, append-nil, ℕ, zero, suc, ◌+◌, ◌*◌, ◌-◌, ◌/◌}
+use Rattle.std.proofs.Common.{◌^◌, ◌≤◌, ◌<◌, add-zero, le_refl, add-one, arith, leb, eqb, ltb, length, take, drop, length-drop, length-take-le}
+use Rattle.std.proofs.Common.{take_all, eqb-true, ne_eqb, ltb-true, lt-ltb, le-ltb, leb-true, le-leb}
+use mathlib.Core.Bool.{false≢true}
+use native.Mathlib.Nat.{min-eq_left}
 use Rattle.numbers.specs.Lists.{list_below}
 use Rattle.numbers.proofs.Tests.{both_true}
 use Rattle.records.specs.Format.{party_count}

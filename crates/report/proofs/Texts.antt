@@ -1,20 +1,11 @@
 -- Texts that are put one after another: bytes, numbers and lines.
-use mathlib.Core.Path.{◌≡◌, refl, sym, subst, ◌∙◌}
-use mathlib.Core.Bool.{Bool, true, false, cond}
-use mathlib.Core.List.{List, [], ◌∷◌, ◌++◌, append_assoc, append-nil}
-use Prim.Native.Nat.{ℕ, zero, suc, ◌+◌, ◌*◌, ◌/◌, ◌%◌, ◌^◌, ◌≤◌, ◌<◌}
-use native.Mathlib.Nat.{not-suc-le-zero, lt_trans, div-lt_self, div-lt_iff_lt-mul, pow-suc}
-use native.Mathlib.Numerals.{add-one}
-use native.Mathlib.Omega.{arith}
-use lib.IntN.{ℤ, pos, negsuc, nat_abs}
+use Rattle.std.proofs.Common.{◌≡◌, refl, sym, subst, ◌∙◌, Bool, true, false, cond, List, [], ◌∷◌, ◌++◌, append_assoc, append-nil, ℕ, zero, suc, ◌+◌}
+use Rattle.std.proofs.Common.{◌*◌, ◌/◌, ◌%◌, ◌^◌, ◌≤◌, ◌<◌, not-suc-le-zero, lt_trans, div-lt_iff_lt-mul, pow-suc, add-one, arith, ℤ, pos, negsuc}
+use Rattle.std.proofs.Common.{nat_abs, T, ltb, lit<, length, get_or, take, set, length-append, take-suc-set, w64, Fits, SFits, to_z, of_z, to_z-of_z}
+use Rattle.std.proofs.Common.{ltb-true, ltb-false, lt-ltb, le-ltb, eq-eqb, ne_eqb}
+use native.Mathlib.Nat.{div-lt_self}
 use lib.Signed.{mag, lt_z, non_neg}
-use lib.Dec.{T, ltb, lit<, eqb-suc-zero}
-use lib.ListN.{length, get_or, take, set, length-append}
-use lib.Seq.{take-suc-set}
-use mir.Syntax.{w64}
-use mir.Val.{Fits, SFits, to_z, of_z}
-use mir.Facts.{to_z-of_z}
-use borrow.Author.Tests.{ltb-true, ltb-false, lt-ltb, le-ltb, eq-eqb, ne_eqb}
+use lib.Dec.{eqb-suc-zero}
 use Rattle.numbers.specs.Signed.{below}
 use Rattle.money.specs.declared.Cents.{Cents}
 use Rattle.money.specs.Quantities.{cents}

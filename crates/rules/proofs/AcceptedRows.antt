@@ -1,8 +1,5 @@
 -- What the rows of refusal say of a record that none of them fits, and of one that the frame refuses.
-use mathlib.Core.Path.{◌≡◌, refl}
-use mathlib.Core.Bool.{Bool, true, false}
-use Prim.Native.Nat.{ℕ, suc}
-use native.Mathlib.Omega.{arith}
+use Rattle.std.proofs.Common.{◌≡◌, refl, Bool, true, false, ℕ, suc, arith}
 use borrow.Author.Tests.{not-false}
 use Rattle.records.specs.declared.format.Record.{Record}
 use Rattle.records.specs.declared.format.Fault.{Fault}

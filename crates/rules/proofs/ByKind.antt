@@ -1,8 +1,5 @@
 -- A record by its kind: what the rows of refusal say of an accepted one, and choices by whether it is of a format.
-use mathlib.Core.Path.{◌≡◌, refl, sym, subst}
-use mathlib.Core.Bool.{Bool, true, false, cond}
-use Prim.Native.Nat.{ℕ}
-use lib.Dec.{T, ltb}
+use Rattle.std.proofs.Common.{◌≡◌, refl, sym, subst, Bool, true, false, cond, ℕ, T, ltb}
 use Rattle.records.specs.declared.format.Record.{Record}
 use Rattle.records.specs.Format.{Format}
 use Rattle.records.specs.Kinds.{format_of, numbers_of, is_of}

@@ -1,8 +1,5 @@
 -- A record that row 6 does not fit: each of its numbers is in its field's range, and its own rule holds.
-use mathlib.Core.Path.{◌≡◌}
-use mathlib.Core.Bool.{true}
-use mathlib.Core.List.{List, [], ◌∷◌}
-use Prim.Native.Nat.{ℕ}
+use Rattle.std.proofs.Common.{◌≡◌, true, List, [], ◌∷◌, ℕ}
 use Rattle.numbers.proofs.Tests.{both_true}
 use Rattle.records.specs.declared.format.Record.{Record}
 use Rattle.records.specs.Format.{Field, fields_fit}

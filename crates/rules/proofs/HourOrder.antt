@@ -1,10 +1,7 @@
 -- The order of hours.
-use mathlib.Core.Path.{◌≡◌, refl}
-use mathlib.Core.Bool.{Bool, true, false, ◌&&◌, ◌||◌}
-use Prim.Native.Nat.{ℕ, ◌+◌, ◌*◌, ◌≤◌}
-use native.Mathlib.Omega.{arith}
-use lib.Dec.{eqb, ltb}
-use borrow.Author.Tests.{ltb-true, ltb-false, eqb-true, eqb-false, lt-ltb, le-ltb}
+use Rattle.std.proofs.Common.{◌≡◌, refl, Bool, true, false, ◌&&◌, ◌||◌, ℕ, ◌+◌, ◌*◌, ◌≤◌, arith, eqb, ltb, ltb-true, ltb-false, eqb-true, lt-ltb}
+use Rattle.std.proofs.Common.{le-ltb}
+use borrow.Author.Tests.{eqb-false}
 use Rattle.numbers.proofs.Tests.{within_from, within_to}
 use Rattle.records.specs.declared.format.HourRecord.{HourRecord}
 use Rattle.records.specs.Format.{hour_ending}

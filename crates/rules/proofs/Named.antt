@@ -1,10 +1,6 @@
 -- An index is below the number of what it counts.
-use mathlib.Core.Path.{◌≡◌, refl, sym, ◌∙◌}
-use mathlib.Core.Bool.{Bool, true, false, cond}
-use Prim.Native.Nat.{ℕ, ◌+◌, ◌-◌, ◌<◌}
-use native.Mathlib.Omega.{arith}
-use lib.Dec.{eqb}
-use borrow.Author.Tests.{eqb-true, eqb-false, eq-eqb, ne_eqb}
+use Rattle.std.proofs.Common.{◌≡◌, refl, sym, ◌∙◌, Bool, true, false, cond, ℕ, ◌+◌, ◌-◌, ◌<◌, arith, eqb, eqb-true, eq-eqb, ne_eqb}
+use borrow.Author.Tests.{eqb-false}
 use Rattle.numbers.specs.Range.{within}
 use Rattle.numbers.proofs.Tests.{within_from, within_to}
 use Rattle.records.specs.declared.format.Record.{Record}

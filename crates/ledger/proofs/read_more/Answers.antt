@@ -1,5 +1,4 @@
-use Rattle.std.specs.Prelude.{ℕ, ◌-◌, List, length, take}
-use Rattle.std.proofs.Common.{arith, subst, ap, ◌∙◌}
+use Rattle.std.proofs.Common.{ℕ, ◌-◌, List, length, take, arith, subst, ap, ◌∙◌}
 use Rattle.std.proofs.lemmas.List.{length-take-le}
 use Rattle.std.proofs.lemmas.Slice.{take-put_mid_below}
 use Rattle.std.specs.Io.KnownBytes.{Appends}

@@ -1,5 +1,4 @@
-use Rattle.std.specs.Prelude.{take}
-use Rattle.std.proofs.Common.{arith}
+use Rattle.std.proofs.Common.{take, arith}
 use Rattle.std.proofs.lemmas.List.{length-take-le}
 use Rattle.ledger.proofs.Outcomes.{full_turn, broken_turn, partial_turn, partial_cut, all_follow}
 use Rattle.ledger.proofs.take_turn.Goals as goal

@@ -1,4 +1,4 @@
-use mathlib.Core.Path.{refl, ap, ◌∙◌}
+use Rattle.std.proofs.Common.{refl, ap, ◌∙◌}
 use Rattle.records.specs.Format.{year_format, area_format, unit_format, commitment_format, hour_format, load_format, post_format}
 use Rattle.records.proofs.OneKind.{another}
 use Rattle.rules.specs.Rules.{area_named, unit_named}

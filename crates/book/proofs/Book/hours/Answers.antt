@@ -1,6 +1,4 @@
-use mathlib.Core.Path.{ap, ◌∙◌}
-use native.Mathlib.Omega.{arith}
-use borrow.Author.Tests.{le-leb}
+use Rattle.std.proofs.Common.{ap, ◌∙◌, arith, le-leb}
 use Rattle.records.specs.declared.format.Record.TheVariants.{Hour}
 use Rattle.records.specs.Decoded.{hour_of}
 use Rattle.book.proofs.Answers.{number_is, sound_answer, stored_hour}

@@ -1,5 +1,4 @@
-use mathlib.Core.Path.{◌≡◌}
-use Prim.Native.Nat.{◌-◌, ◌/◌}
+use Rattle.std.proofs.Common.{◌≡◌, ◌-◌, ◌/◌}
 use Rattle.book.specs.Books.{Sound}
 use Rattle.book.specs.Runs.{hour_length, hours_of}
 use Rattle.book.proofs.Book.hours.Given as goal

@@ -1,5 +1,4 @@
-use mathlib.Core.Path.{◌∙◌}
-use native.Mathlib.Omega.{arith}
+use Rattle.std.proofs.Common.{◌∙◌, arith}
 use Rattle.book.proofs.AreaNets.{nets_step, nets_none, nets_done}
 use Rattle.book.proofs.post.area_nets.Goals as goal
 

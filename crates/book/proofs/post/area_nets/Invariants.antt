@@ -1,5 +1,4 @@
-use mathlib.Core.Path.{◌≡◌}
-use Prim.Native.Nat.{◌-◌, ◌≤◌}
+use Rattle.std.proofs.Common.{◌≡◌, ◌-◌, ◌≤◌}
 use Rattle.records.specs.Format.{unit_count}
 use Rattle.book.proofs.AreaNets.{nets_of}
 use Rattle.book.proofs.post.area_nets.Given as goal

@@ -1,4 +1,4 @@
-use Prim.Native.Nat.{◌-◌}
+use Rattle.std.proofs.Common.{◌-◌}
 use Rattle.numbers.proofs.Lists.{Filled}
 use Rattle.records.specs.Format.{party_count}
 use Rattle.book.specs.Books.{obligation_in}

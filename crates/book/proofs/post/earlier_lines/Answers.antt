@@ -1,4 +1,4 @@
-use native.Mathlib.Omega.{arith}
+use Rattle.std.proofs.Common.{arith}
 use Rattle.numbers.proofs.Lists.{filled_none, filled_more}
 use Rattle.book.proofs.Loops.{posted_at, sixteen}
 use Rattle.book.proofs.post.earlier_lines.Goals as goal

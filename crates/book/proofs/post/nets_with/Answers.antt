@@ -1,4 +1,4 @@
-use borrow.Author.Tests.{eq-eqb, ne_eqb}
+use Rattle.std.proofs.Common.{eq-eqb, ne_eqb}
 use Rattle.book.specs.Steps.{nets_with}
 use Rattle.book.proofs.post.nets_with.Goals as goal
 

@@ -1,4 +1,4 @@
-use native.Mathlib.Omega.{arith}
+use Rattle.std.proofs.Common.{arith}
 use Rattle.numbers.specs.Lists.{list_below}
 use Rattle.book.proofs.AreaNets.{parts_none, parts_small, parts_more, parts_all}
 use Rattle.book.proofs.post.parts.Goals as goal

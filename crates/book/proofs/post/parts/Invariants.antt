@@ -1,4 +1,4 @@
-use Prim.Native.Nat.{◌-◌}
+use Rattle.std.proofs.Common.{◌-◌}
 use Rattle.records.specs.Format.{commitment_count}
 use Rattle.book.proofs.AreaNets.{PartsOf}
 use Rattle.book.proofs.post.parts.Given as goal

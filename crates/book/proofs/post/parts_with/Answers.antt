@@ -1,5 +1,4 @@
-use native.Mathlib.Omega.{arith}
-use lib.ListN.{length-set}
+use Rattle.std.proofs.Common.{arith, length-set}
 use Rattle.book.proofs.Ranges.{answer_most, other_unit, own_part}
 use Rattle.book.proofs.post.parts_with.Goals as goal
 

@@ -1,5 +1,4 @@
-use native.Mathlib.Omega.{arith}
-use borrow.Author.Rules.{rules}
+use Rattle.std.proofs.Common.{arith, rules}
 use Rattle.numbers.proofs.Lists.{filled_none, filled_more}
 use Rattle.book.proofs.post.with_dues.Goals as goal
 

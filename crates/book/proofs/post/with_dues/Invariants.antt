@@ -1,8 +1,4 @@
-use mathlib.Core.Bool.{cond}
-use Prim.Native.Nat.{◌-◌, ◌/◌, ◌%◌}
-use lib.IntN.{pos}
-use lib.Dec.{eqb}
-use lib.ListN.{get_or}
+use Rattle.std.proofs.Common.{cond, ◌-◌, ◌/◌, ◌%◌, pos, eqb, get_or}
 use Rattle.numbers.proofs.Lists.{Filled}
 use Rattle.money.specs.Quantities.{cents}
 use Rattle.records.specs.Format.{party_count}

@@ -1,5 +1,4 @@
-use mathlib.Core.Path.{sym}
-use native.Mathlib.Omega.{arith}
+use Rattle.std.proofs.Common.{sym, arith}
 use Rattle.calendar.proofs.DeliveryYears.{from_june, to_may}
 use Rattle.calendar.proofs.delivery_year.calendar_year.Goals as goal
 

@@ -1,5 +1,4 @@
-use mathlib.Core.Path.{sym, ◌∙◌}
-use native.Mathlib.Omega.{arith}
+use Rattle.std.proofs.Common.{sym, ◌∙◌, arith}
 use Rattle.calendar.proofs.DeliveryYears.{day_from_june, day_to_may, no_date, day_small}
 use Rattle.calendar.proofs.delivery_year.delivery_day.Goals as goal
 

@@ -1,5 +1,4 @@
-use mathlib.Core.Bool.{true, false}
-use mathlib.Core.Path.{sym, ◌∙◌}
+use Rattle.std.proofs.Common.{true, false, sym, ◌∙◌}
 use Rattle.calendar.proofs.DeliveryYears.{days_by}
 use Rattle.calendar.proofs.delivery_year.delivery_days.Goals as goal
 

@@ -1,4 +1,4 @@
-use mathlib.Core.Path.{sym, ◌∙◌}
+use Rattle.std.proofs.Common.{sym, ◌∙◌}
 use Rattle.calendar.specs.DeliveryYear.{is_delivery_peak}
 use Rattle.calendar.proofs.delivery_year.is_delivery_peak.Goals as goal
 

@@ -1,4 +1,4 @@
-use native.Mathlib.Omega.{arith}
+use Rattle.std.proofs.Common.{arith}
 use Rattle.calendar.specs.Gregorian.{day_number}
 use Rattle.calendar.proofs.gregorian.day_number.Goals as goal
 

@@ -1,4 +1,4 @@
-use native.Mathlib.Omega.{arith}
+use Rattle.std.proofs.Common.{arith}
 use Rattle.calendar.specs.Gregorian.{day_of_year}
 use Rattle.calendar.proofs.gregorian.day_of_year.Goals as goal
 

@@ -1,6 +1,4 @@
-use mathlib.Core.Path.{◌≡◌, sym}
-use Prim.Native.Nat.{ℕ, ◌+◌, ◌≤◌}
-use native.Mathlib.Omega.{arith}
+use Rattle.std.proofs.Common.{◌≡◌, sym, ℕ, ◌+◌, ◌≤◌, arith}
 use Rattle.numbers.specs.Range.{within}
 use Rattle.numbers.specs.Sum.{sum_below}
 use Rattle.calendar.specs.Gregorian.{month_days}

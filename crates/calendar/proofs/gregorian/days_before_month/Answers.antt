@@ -1,6 +1,4 @@
-use mathlib.Core.Path.{◌≡◌}
-use Prim.Native.Nat.{◌+◌, ◌≤◌}
-use native.Mathlib.Omega.{arith}
+use Rattle.std.proofs.Common.{◌≡◌, ◌+◌, ◌≤◌, arith}
 use Rattle.calendar.specs.Gregorian.{days_before_month}
 use Rattle.calendar.proofs.Months.{before_at, before_small}
 use Rattle.calendar.proofs.gregorian.days_before_month.Goals as goal

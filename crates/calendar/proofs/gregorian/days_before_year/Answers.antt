@@ -1,5 +1,4 @@
-use mathlib.Core.Path.{refl}
-use native.Mathlib.Omega.{arith}
+use Rattle.std.proofs.Common.{refl, arith}
 use Rattle.calendar.specs.Gregorian.{multiples_below, days_before_year}
 use Rattle.calendar.proofs.gregorian.days_before_year.Goals as goal
 

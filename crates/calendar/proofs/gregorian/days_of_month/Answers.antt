@@ -1,5 +1,4 @@
-use mathlib.Core.Path.{sym, ◌∙◌}
-use borrow.Author.Tests.{ne_eqb}
+use Rattle.std.proofs.Common.{sym, ◌∙◌, ne_eqb}
 use Rattle.calendar.specs.Gregorian.{month_days}
 use Rattle.calendar.proofs.gregorian.days_of_month.Goals as goal
 

@@ -1,4 +1,4 @@
-use borrow.Author.Tests.{eq-eqb, ne_eqb}
+use Rattle.std.proofs.Common.{eq-eqb, ne_eqb}
 use Rattle.calendar.specs.Gregorian.{leap_year}
 use Rattle.calendar.proofs.gregorian.leap_year.Goals as goal
 

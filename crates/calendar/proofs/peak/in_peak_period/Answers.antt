@@ -1,4 +1,4 @@
-use mathlib.Core.Path.{sym, ◌∙◌}
+use Rattle.std.proofs.Common.{sym, ◌∙◌}
 use Rattle.calendar.specs.Peak.{peak_period}
 use Rattle.calendar.proofs.peak.in_peak_period.Goals as goal
 

@@ -1,6 +1,5 @@
+use Rattle.std.proofs.Common.{sym, ◌∙◌, arith}
 use mathlib.Core.Bool.{and-true, and-false}
-use mathlib.Core.Path.{sym, ◌∙◌}
-use native.Mathlib.Omega.{arith}
 use Rattle.calendar.specs.Peak.{peak_hour}
 use Rattle.calendar.proofs.Weeks.{peak_month}
 use Rattle.calendar.proofs.peak.is_peak.Goals as goal

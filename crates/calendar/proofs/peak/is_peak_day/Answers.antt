@@ -1,5 +1,4 @@
-use mathlib.Core.Path.{sym}
-use borrow.Author.Tests.{le-ltb, lt-ltb}
+use Rattle.std.proofs.Common.{sym, le-ltb, lt-ltb}
 use Rattle.calendar.specs.Peak.{peak_day}
 use Rattle.calendar.proofs.peak.is_peak_day.Goals as goal
 

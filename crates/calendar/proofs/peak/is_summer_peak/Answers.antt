@@ -1,4 +1,4 @@
-use mathlib.Core.Path.{sym, ◌∙◌}
+use Rattle.std.proofs.Common.{sym, ◌∙◌}
 use Rattle.calendar.specs.Peak.{summer_peak}
 use Rattle.calendar.proofs.peak.is_summer_peak.Goals as goal
 

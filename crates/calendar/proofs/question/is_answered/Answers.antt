@@ -1,4 +1,4 @@
-use mathlib.Core.Path.{sym, ◌∙◌}
+use Rattle.std.proofs.Common.{sym, ◌∙◌}
 use Rattle.calendar.specs.Peak.{is_answered}
 use Rattle.calendar.proofs.question.is_answered.Goals as goal
 

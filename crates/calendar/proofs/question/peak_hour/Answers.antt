@@ -1,4 +1,4 @@
-use mathlib.Core.Path.{sym, ◌∙◌}
+use Rattle.std.proofs.Common.{sym, ◌∙◌}
 use Rattle.calendar.specs.Peak.{peak_answer}
 use Rattle.calendar.proofs.question.peak_hour.Goals as goal
 

@@ -1,5 +1,5 @@
+use Rattle.std.proofs.Common.{ne_eqb}
 use mathlib.Core.Bool.{or-false}
-use borrow.Author.Tests.{ne_eqb}
 use Rattle.calendar.specs.Week.{is_holiday}
 use Rattle.calendar.proofs.week.is_holiday.Goals as goal
 

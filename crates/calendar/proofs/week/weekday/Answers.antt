@@ -1,4 +1,4 @@
-use native.Mathlib.Omega.{arith}
+use Rattle.std.proofs.Common.{arith}
 use Rattle.calendar.specs.Week.{weekday}
 use Rattle.calendar.proofs.week.weekday.Goals as goal
 

@@ -1,4 +1,4 @@
-use mathlib.Core.Path.{ap}
+use Rattle.std.proofs.Common.{ap}
 use Rattle.numbers.proofs.Signs.{difference_read}
 use Rattle.capacity.specs.Quantities.{unforced_watts}
 use Rattle.capacity.proofs.amounts.unforced_difference.Goals as goal

@@ -1,5 +1,5 @@
-use mathlib.Core.Path.{◌∙◌}
-use borrow.Author.Tests.{le-leb, lt-leb}
+use Rattle.std.proofs.Common.{◌∙◌, le-leb}
+use borrow.Author.Tests.{lt-leb}
 use Rattle.numbers.proofs.Tests.{passed}
 use Rattle.capacity.specs.Shortfall.{hours_in_range}
 use Rattle.capacity.proofs.rating.hours_in_range.Goals as goal

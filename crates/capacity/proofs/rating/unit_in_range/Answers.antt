@@ -1,5 +1,4 @@
-use mathlib.Core.Path.{sym, ◌∙◌}
-use mathlib.Core.Bool.{◌&&◌}
+use Rattle.std.proofs.Common.{sym, ◌∙◌, ◌&&◌}
 use Rattle.numbers.proofs.Tests.{within_to, flag, passed, failed}
 use Rattle.capacity.specs.Shortfall.{installed_most, rates_in_range, hours_in_range, unit_in_range}
 use Rattle.capacity.proofs.rating.unit_in_range.Goals as goal

@@ -1,5 +1,5 @@
-use mathlib.Core.Path.{◌∙◌}
-use borrow.Author.Tests.{le-leb, lt-leb}
+use Rattle.std.proofs.Common.{◌∙◌, le-leb}
+use borrow.Author.Tests.{lt-leb}
 use Rattle.capacity.specs.Shortfall.{year_in_range}
 use Rattle.capacity.proofs.rating.year_in_range.Goals as goal
 

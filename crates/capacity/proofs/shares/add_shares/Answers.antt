@@ -1,5 +1,4 @@
-use mathlib.Core.Path.{refl}
-use native.Mathlib.Omega.{arith}
+use Rattle.std.proofs.Common.{refl, arith}
 use Rattle.numbers.proofs.Lists.{filled_none, filled_more, filled_all}
 use Rattle.capacity.specs.Shares.{nets_answer}
 use Rattle.capacity.proofs.shares.add_shares.Goals as goal

@@ -1,4 +1,4 @@
-use Prim.Native.Nat.{◌-◌}
+use Rattle.std.proofs.Common.{◌-◌}
 use Rattle.numbers.proofs.Lists.{Filled}
 use Rattle.capacity.specs.Quantities.{unforced_watts, watts_of}
 use Rattle.capacity.specs.Shares.{net_with}

@@ -1,4 +1,4 @@
-use mathlib.Core.Path.{refl}
+use Rattle.std.proofs.Common.{refl}
 use Rattle.numbers.specs.Lists.{list_below}
 use Rattle.capacity.proofs.shares.no_nets.Goals as goal
 

@@ -1,7 +1,4 @@
-use mathlib.Core.Path.{refl, ap, ◌∙◌}
-use Prim.Native.Nat.{ℕ}
-use native.Mathlib.Omega.{arith}
-use borrow.Author.Rules.{rules}
+use Rattle.std.proofs.Common.{refl, ap, ◌∙◌, ℕ, arith, rules}
 use Rattle.numbers.specs.Split.{with_sign, split_signed}
 use Rattle.numbers.proofs.Lists.{list_same, filled_none, filled_more, filled_all}
 use Rattle.numbers.proofs.Distribution.{party_share}

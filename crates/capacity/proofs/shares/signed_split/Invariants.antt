@@ -1,4 +1,4 @@
-use Prim.Native.Nat.{◌-◌}
+use Rattle.std.proofs.Common.{◌-◌}
 use Rattle.numbers.specs.Lists.{element}
 use Rattle.numbers.specs.Split.{with_sign}
 use Rattle.numbers.proofs.Lists.{Filled}

@@ -1,6 +1,4 @@
-use mathlib.Core.Path.{ap, ◌∙◌}
-use lib.IntN.{ℤ}
-use borrow.Author.Rules.{rules}
+use Rattle.std.proofs.Common.{ap, ◌∙◌, ℤ, rules}
 use Rattle.numbers.specs.Lists.{list_below, element}
 use Rattle.numbers.specs.Split.{split_signed}
 use Rattle.numbers.proofs.CappedSums.{capped_sixteen}

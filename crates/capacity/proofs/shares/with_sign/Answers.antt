@@ -1,4 +1,4 @@
-use mathlib.Core.Path.{sym, ap, ◌∙◌}
+use Rattle.std.proofs.Common.{sym, ap, ◌∙◌}
 use Rattle.numbers.proofs.Splits.{sign_above, sign_below}
 use Rattle.capacity.specs.Quantities.{unforced_watts}
 use Rattle.capacity.proofs.shares.with_sign.Goals as goal

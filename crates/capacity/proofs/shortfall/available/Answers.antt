@@ -1,6 +1,4 @@
-use mathlib.Core.Path.{◌∙◌}
-use native.Mathlib.Omega.{arith}
-use borrow.Author.Tests.{ne_eqb, lt-ltb, le-ltb}
+use Rattle.std.proofs.Common.{◌∙◌, arith, ne_eqb, lt-ltb, le-ltb}
 use Rattle.numbers.specs.Signed.{above}
 use Rattle.capacity.specs.Shortfall.{available}
 use Rattle.capacity.proofs.Capacities.{unit_range}

@@ -1,5 +1,5 @@
-use mathlib.Core.Path.{ap, sym}
-use native.Mathlib.Nat.{le_of_lt, min-eq_left, min-eq_right}
+use Rattle.std.proofs.Common.{ap, sym, le_of_lt}
+use native.Mathlib.Nat.{min-eq_left, min-eq_right}
 use Rattle.capacity.specs.Quantities.{installed_watts}
 use Rattle.capacity.specs.Shortfall.{committed}
 use Rattle.capacity.proofs.shortfall.committed.Goals as goal

@@ -1,4 +1,4 @@
-use mathlib.Core.Path.{◌∙◌}
+use Rattle.std.proofs.Common.{◌∙◌}
 use Rattle.capacity.specs.Shortfall.{limit}
 use Rattle.capacity.proofs.shortfall.limit.Goals as goal
 

@@ -1,5 +1,4 @@
-use mathlib.Core.Path.{sym, ap, ◌∙◌}
-use native.Mathlib.Omega.{arith}
+use Rattle.std.proofs.Common.{sym, ap, ◌∙◌, arith}
 use Rattle.capacity.specs.Quantities.{unforced_watts}
 use Rattle.capacity.proofs.Capacities.{under_limit}
 use Rattle.capacity.proofs.Formulas.{over_limit}

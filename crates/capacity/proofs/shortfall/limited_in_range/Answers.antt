@@ -1,7 +1,4 @@
-use mathlib.Core.Path.{◌∙◌}
-use Prim.Native.Nat.{◌≤◌}
-use native.Mathlib.Nat.{le_trans}
-use native.Mathlib.Omega.{arith}
+use Rattle.std.proofs.Common.{◌∙◌, ◌≤◌, le_trans, arith}
 use Rattle.numbers.specs.Signed.{above}
 use Rattle.numbers.proofs.Tests.{both_true}
 use Rattle.capacity.specs.Shortfall.{limited_shortfall, unit_limit, installed_most}

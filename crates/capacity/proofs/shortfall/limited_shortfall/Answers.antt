@@ -1,4 +1,4 @@
-use mathlib.Core.Path.{◌∙◌}
+use Rattle.std.proofs.Common.{◌∙◌}
 use Rattle.numbers.proofs.Tests.{flag}
 use Rattle.capacity.specs.Shortfall.{shortfall_answer}
 use Rattle.capacity.proofs.shortfall.limited_shortfall.Goals as goal

@@ -1,5 +1,4 @@
-use native.Mathlib.Omega.{arith}
-use Rattle.std.proofs.Common.{◌≡◌, ℕ, ◌+◌, ◌<◌, ◌≤◌, true}
+use Rattle.std.proofs.Common.{arith, ◌≡◌, ℕ, ◌+◌, ◌<◌, ◌≤◌, true}
 use Rattle.capacity.specs.declared.rating.Rating.{Rating}
 use Rattle.capacity.specs.declared.rating.HourCounts.{HourCounts}
 use Rattle.capacity.specs.Shortfall.{peak_rated, installed_most, unit_in_range}

@@ -1,5 +1,5 @@
 use Rattle.std.proofs.lemmas.Bool.Decides.{nat_tests}
-use native.Mathlib.Omega.{arith}
+use Rattle.std.proofs.Common.{arith}
 use Rattle.capacity.specs.Shortfall.{quarters}
 use Rattle.capacity.proofs.shortfall.quarters.Goals as goal
 

@@ -1,5 +1,4 @@
-use mathlib.Core.Path.{◌∙◌}
-use native.Mathlib.Nat.{le_trans}
+use Rattle.std.proofs.Common.{◌∙◌, le_trans}
 use Rattle.numbers.specs.Signed.{above}
 use Rattle.capacity.proofs.Capacities.{unforced_at_most}
 use Rattle.capacity.proofs.shortfall.unit_limit.Goals as goal

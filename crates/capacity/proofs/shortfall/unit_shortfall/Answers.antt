@@ -1,5 +1,4 @@
-use mathlib.Core.Path.{◌∙◌}
-use native.Mathlib.Omega.{arith}
+use Rattle.std.proofs.Common.{◌∙◌, arith}
 use Rattle.numbers.specs.Signed.{above}
 use Rattle.capacity.specs.Shortfall.{unit_shortfall}
 use Rattle.capacity.proofs.Capacities.{unit_range}

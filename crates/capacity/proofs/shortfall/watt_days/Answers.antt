@@ -1,4 +1,5 @@
-use borrow.Author.Tests.{le-leb, lt-leb}
+use Rattle.std.proofs.Common.{le-leb}
+use borrow.Author.Tests.{lt-leb}
 use Rattle.capacity.specs.Shortfall.{watt_days, watt_days_answer}
 use Rattle.capacity.proofs.shortfall.watt_days.Goals as goal
 

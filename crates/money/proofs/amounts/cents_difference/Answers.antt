@@ -1,4 +1,4 @@
-use mathlib.Core.Path.{ap}
+use Rattle.std.proofs.Common.{ap}
 use Rattle.numbers.proofs.Signs.{difference_read}
 use Rattle.money.specs.Quantities.{cents}
 use Rattle.money.proofs.amounts.cents_difference.Goals as goal

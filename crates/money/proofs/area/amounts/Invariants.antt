@@ -1,4 +1,4 @@
-use Prim.Native.Nat.{◌-◌}
+use Rattle.std.proofs.Common.{◌-◌}
 use Rattle.numbers.specs.Signed.{above}
 use Rattle.numbers.proofs.Lists.{Filled}
 use Rattle.money.specs.Quantities.{cents_of}

@@ -1,8 +1,5 @@
-use mathlib.Core.Path.{◌∙◌}
-use Prim.Native.Nat.{◌-◌, ◌^◌}
-use native.Mathlib.Omega.{arith}
-use borrow.Author.Rules.{rules}
-use borrow.Author.Tests.{le-leb, lt-leb}
+use Rattle.std.proofs.Common.{◌∙◌, ◌-◌, ◌^◌, arith, rules, le-leb}
+use borrow.Author.Tests.{lt-leb}
 use Rattle.numbers.proofs.Tests.{passed, failed}
 use Rattle.numbers.proofs.CappedSums.{capped_sixteen, capped_test}
 use Rattle.money.specs.AreaMoney.{area_in_range, obligations_most}

@@ -1,4 +1,4 @@
-use mathlib.Core.Path.{◌∙◌}
+use Rattle.std.proofs.Common.{◌∙◌}
 use Rattle.money.specs.AreaMoney.{priced}
 use Rattle.money.proofs.area.ceiling.Goals as goal
 

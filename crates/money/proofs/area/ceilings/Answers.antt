@@ -1,5 +1,4 @@
-use mathlib.Core.Path.{refl}
-use native.Mathlib.Omega.{arith}
+use Rattle.std.proofs.Common.{refl, arith}
 use Rattle.numbers.specs.Signed.{below}
 use Rattle.numbers.proofs.Sums.{sum_term}
 use Rattle.numbers.proofs.Lists.{filled_none, filled_more}

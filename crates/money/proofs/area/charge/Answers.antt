@@ -1,4 +1,4 @@
-use mathlib.Core.Path.{◌∙◌}
+use Rattle.std.proofs.Common.{◌∙◌}
 use Rattle.money.specs.AreaMoney.{priced}
 use Rattle.money.proofs.area.charge.Goals as goal
 

@@ -1,5 +1,4 @@
-use Prim.Native.Nat.{◌-◌}
-use lib.IntN.{pos}
+use Rattle.std.proofs.Common.{◌-◌, pos}
 use Rattle.numbers.proofs.Lists.{Filled}
 use Rattle.capacity.specs.Quantities.{watts_of}
 use Rattle.money.specs.Quantities.{cents}

@@ -1,4 +1,4 @@
-use Prim.Native.Nat.{◌+◌, ◌-◌}
+use Rattle.std.proofs.Common.{◌+◌, ◌-◌}
 use lib.IntN.{sub_ℕ}
 use Rattle.numbers.specs.Signed.{above}
 use Rattle.numbers.proofs.Lists.{Filled}

@@ -1,4 +1,4 @@
-use native.Mathlib.Omega.{arith}
+use Rattle.std.proofs.Common.{arith}
 use Rattle.numbers.proofs.CappedSums.{capped_none, capped_more}
 use Rattle.money.proofs.area.excesses.Goals as goal
 

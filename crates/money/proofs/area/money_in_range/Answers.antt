@@ -1,4 +1,4 @@
-use native.Mathlib.Omega.{arith}
+use Rattle.std.proofs.Common.{arith}
 use Rattle.numbers.specs.Signed.{above}
 use Rattle.numbers.proofs.Lists.{sum_filled}
 use Rattle.money.specs.AreaMoney.{charges, ceilings, settled}

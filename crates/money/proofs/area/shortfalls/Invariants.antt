@@ -1,4 +1,4 @@
-use Prim.Native.Nat.{◌-◌}
+use Rattle.std.proofs.Common.{◌-◌}
 use Rattle.numbers.specs.Signed.{above}
 use Rattle.numbers.proofs.CappedSums.{Capped}
 use Rattle.capacity.specs.Quantities.{watts_of}

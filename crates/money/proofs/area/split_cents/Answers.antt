@@ -1,8 +1,4 @@
-use mathlib.Core.Path.{refl, ap, ◌∙◌}
-use Prim.Native.Nat.{ℕ}
-use native.Mathlib.Omega.{arith}
-use lib.IntN.{pos}
-use borrow.Author.Rules.{rules}
+use Rattle.std.proofs.Common.{refl, ap, ◌∙◌, ℕ, arith, pos, rules}
 use Rattle.numbers.proofs.Lists.{list_same, filled_none, filled_more, filled_all}
 use Rattle.numbers.proofs.Distribution.{party_share}
 use Rattle.money.specs.Quantities.{cents}

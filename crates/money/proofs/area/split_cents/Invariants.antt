@@ -1,5 +1,4 @@
-use Prim.Native.Nat.{◌-◌}
-use lib.IntN.{pos}
+use Rattle.std.proofs.Common.{◌-◌, pos}
 use Rattle.numbers.specs.Lists.{element}
 use Rattle.numbers.proofs.Lists.{Filled}
 use Rattle.money.specs.Quantities.{cents}

@@ -1,7 +1,4 @@
-use mathlib.Core.Path.{ap, ◌∙◌}
-use Prim.Native.Nat.{ℕ}
-use native.Mathlib.Omega.{arith}
-use lib.IntN.{pos}
+use Rattle.std.proofs.Common.{ap, ◌∙◌, ℕ, arith, pos}
 use Rattle.numbers.proofs.CappedSums.{capped_below}
 use Rattle.money.specs.Quantities.{cents}
 use Rattle.money.proofs.area.total.Goals as goal

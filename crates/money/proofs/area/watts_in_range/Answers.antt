@@ -1,6 +1,5 @@
-use mathlib.Core.Path.{sym, ◌∙◌}
-use native.Mathlib.Omega.{arith}
-use borrow.Author.Tests.{le-leb, lt-leb}
+use Rattle.std.proofs.Common.{sym, ◌∙◌, arith, le-leb}
+use borrow.Author.Tests.{lt-leb}
 use Rattle.numbers.proofs.Tests.{passed, failed}
 use Rattle.numbers.proofs.CappedSums.{capped_test}
 use Rattle.capacity.specs.Shares.{net_most}

@@ -1,5 +1,4 @@
-use mathlib.Core.Path.{ap, ◌∙◌}
-use native.Mathlib.Omega.{arith}
+use Rattle.std.proofs.Common.{ap, ◌∙◌, arith}
 use Rattle.numbers.proofs.SignedSums.{difference_parts}
 use Rattle.numbers.proofs.Sizes.{size_parts, both_within, first_past, second_past}
 use Rattle.money.specs.Quantities.{cents}

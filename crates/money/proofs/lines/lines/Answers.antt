@@ -1,5 +1,4 @@
-use mathlib.Core.Path.{refl}
-use native.Mathlib.Omega.{arith}
+use Rattle.std.proofs.Common.{refl, arith}
 use Rattle.numbers.proofs.Lists.{filled_none, filled_more, filled_all}
 use Rattle.money.specs.Lines.{lines_answer}
 use Rattle.money.proofs.lines.lines.Goals as goal

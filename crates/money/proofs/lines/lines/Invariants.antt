@@ -1,4 +1,4 @@
-use Prim.Native.Nat.{◌-◌}
+use Rattle.std.proofs.Common.{◌-◌}
 use Rattle.numbers.proofs.Lists.{Filled}
 use Rattle.money.specs.Quantities.{cents, cents_of}
 use Rattle.money.specs.Lines.{line_answer}

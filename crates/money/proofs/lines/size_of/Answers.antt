@@ -1,4 +1,4 @@
-use native.Mathlib.Omega.{arith}
+use Rattle.std.proofs.Common.{arith}
 use Rattle.numbers.proofs.SignedSums.{one_side}
 use Rattle.numbers.proofs.Sizes.{size_parts}
 use Rattle.money.proofs.lines.size_of.Goals as goal

@@ -1,4 +1,5 @@
-use borrow.Author.Tests.{le-leb, lt-leb}
+use Rattle.std.proofs.Common.{le-leb}
+use borrow.Author.Tests.{lt-leb}
 use Rattle.numbers.specs.Range.{within}
 use Rattle.numbers.proofs.range.within.Goals as goal
 

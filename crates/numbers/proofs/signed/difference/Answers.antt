@@ -1,9 +1,5 @@
-use mathlib.Core.Path.{sym, ◌∙◌}
-use Prim.Native.Nat.{◌-◌, ◌^◌}
-use native.Mathlib.Omega.{arith}
-use mir.Syntax.{w64}
+use Rattle.std.proofs.Common.{sym, ◌∙◌, ◌-◌, ◌^◌, arith, w64, lt-ltb, le-ltb}
 use mir.Facts.{to_z_pos}
-use borrow.Author.Tests.{lt-ltb, le-ltb}
 use Rattle.numbers.specs.Signed.{difference_answer}
 use Rattle.numbers.proofs.Signs.{negated_is, sub_negative, sub_positive, difference_answered}
 use Rattle.numbers.proofs.signed.difference.Goals as goal

@@ -1,5 +1,4 @@
-use mathlib.Core.Path.{refl}
-use native.Mathlib.Omega.{arith}
+use Rattle.std.proofs.Common.{refl, arith}
 use Rattle.numbers.proofs.CappedSums.{capped_none, capped_more}
 use Rattle.numbers.proofs.split.capped_sum.Goals as goal
 

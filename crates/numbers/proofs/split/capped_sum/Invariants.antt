@@ -1,5 +1,4 @@
-use Prim.Native.Nat.{◌-◌}
-use lib.ListN.{length}
+use Rattle.std.proofs.Common.{◌-◌, length}
 use Rattle.numbers.specs.Lists.{element}
 use Rattle.numbers.proofs.CappedSums.{Capped}
 use Rattle.numbers.proofs.split.capped_sum.Given as goal

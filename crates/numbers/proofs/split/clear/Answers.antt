@@ -1,5 +1,4 @@
-use mathlib.Core.Path.{refl}
-use native.Mathlib.Omega.{arith}
+use Rattle.std.proofs.Common.{refl, arith}
 use Rattle.numbers.proofs.Lists.{filled_none, filled_more}
 use Rattle.numbers.proofs.split.clear.Goals as goal
 

@@ -1,5 +1,4 @@
-use Prim.Native.Nat.{◌-◌}
-use lib.ListN.{length}
+use Rattle.std.proofs.Common.{◌-◌, length}
 use Rattle.numbers.proofs.Lists.{Filled}
 use Rattle.numbers.proofs.split.clear.Given as goal
 

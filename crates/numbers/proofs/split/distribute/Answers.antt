@@ -1,5 +1,4 @@
-use mathlib.Core.Path.{refl, sym}
-use native.Mathlib.Omega.{arith}
+use Rattle.std.proofs.Common.{refl, sym, arith}
 use Rattle.numbers.specs.Sum.{sum_below}
 use Rattle.numbers.proofs.Lists.{filled_none, filled_more}
 use Rattle.numbers.proofs.Splits.{first_shares_none}

@@ -1,6 +1,4 @@
-use mathlib.Core.Path.{◌≡◌}
-use Prim.Native.Nat.{◌-◌}
-use lib.ListN.{length}
+use Rattle.std.proofs.Common.{◌≡◌, ◌-◌, length}
 use Rattle.numbers.specs.Sum.{sum_below}
 use Rattle.numbers.specs.Lists.{element}
 use Rattle.numbers.specs.Split.{first_shares, split}

@@ -1,4 +1,4 @@
-use mathlib.Core.Path.{sym, ◌∙◌}
+use Rattle.std.proofs.Common.{sym, ◌∙◌}
 use Rattle.numbers.proofs.Distribution.{shares_found, answer_shares, answer_none}
 use Rattle.numbers.proofs.split.split.Goals as goal
 

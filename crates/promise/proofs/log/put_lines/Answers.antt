@@ -1,5 +1,4 @@
-use native.Mathlib.Omega.{arith}
-use borrow.Author.Rules.{rules}
+use Rattle.std.proofs.Common.{arith, rules}
 use Rattle.promise.proofs.Storing.{lines_full, lines_more, lines_all}
 use Rattle.promise.proofs.log.put_lines.Goals as goal
 

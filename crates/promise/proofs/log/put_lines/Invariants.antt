@@ -1,6 +1,4 @@
-use mathlib.Core.Path.{◌≡◌}
-use Prim.Native.Nat.{◌+◌, ◌-◌, ◌≤◌}
-use lib.ListN.{length, drop}
+use Rattle.std.proofs.Common.{◌≡◌, ◌+◌, ◌-◌, ◌≤◌, length, drop}
 use Rattle.promise.specs.Logs.{stored_from}
 use Rattle.promise.proofs.Storing.{amounts_of}
 use Rattle.promise.proofs.log.put_lines.Given as goal

@@ -1,4 +1,4 @@
-use mathlib.Core.Path.{refl}
+use Rattle.std.proofs.Common.{refl}
 use Rattle.promise.proofs.Storing.{going_more, going_book, going_numbers, going_lines}
 use Rattle.promise.proofs.log.run.Goals as goal
 

@@ -1,5 +1,4 @@
-use Prim.Native.Nat.{◌-◌}
-use lib.ListN.{length}
+use Rattle.std.proofs.Common.{◌-◌, length}
 use Rattle.promise.proofs.Storing.{Going}
 use Rattle.promise.proofs.log.run.Given as goal
 

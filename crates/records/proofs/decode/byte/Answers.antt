@@ -1,4 +1,4 @@
-use native.Mathlib.Omega.{arith}
+use Rattle.std.proofs.Common.{arith}
 use Rattle.records.proofs.Numbers.{of_byte}
 use Rattle.records.proofs.decode.byte.Goals as goal
 

@@ -1,5 +1,4 @@
-use mathlib.Core.Path.{refl, sym, ◌∙◌}
-use native.Mathlib.Omega.{arith}
+use Rattle.std.proofs.Common.{refl, sym, ◌∙◌, arith}
 use Rattle.numbers.proofs.Tests.{not_equal_of}
 use Rattle.records.specs.Decoded.{framed}
 use Rattle.records.proofs.Frames.{whole}

@@ -1,4 +1,4 @@
-use mathlib.Core.Path.{ap}
+use Rattle.std.proofs.Common.{ap}
 use Rattle.records.specs.declared.format.Record.TheVariants.{Hour}
 use Rattle.records.specs.Format.{hour_format}
 use Rattle.records.proofs.Frames.{of_length_lem, not_of_length}

@@ -1,4 +1,4 @@
-use mathlib.Core.Path.{ap, sym, ◌∙◌}
+use Rattle.std.proofs.Common.{ap, sym, ◌∙◌}
 use Rattle.records.specs.Kinds.{of_hour}
 use Rattle.records.specs.Decoded.{no_hour}
 use Rattle.records.proofs.Frames.{hour_framed, no_hour_lem}

@@ -1,5 +1,4 @@
-use mathlib.Core.Path.{refl}
-use borrow.Author.Tests.{lt-ltb, le-ltb}
+use Rattle.std.proofs.Common.{refl, lt-ltb, le-ltb}
 use Rattle.numbers.proofs.Tests.{below_of, not_below_of}
 use Rattle.records.specs.Decoded.{is_broken}
 use Rattle.records.proofs.decode.is_broken.Goals as goal

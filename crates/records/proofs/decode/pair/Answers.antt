@@ -1,4 +1,4 @@
-use native.Mathlib.Omega.{arith}
+use Rattle.std.proofs.Common.{arith}
 use Rattle.records.proofs.Numbers.{of_bytes}
 use Rattle.records.proofs.decode.pair.Goals as goal
 

@@ -1,6 +1,4 @@
-use mathlib.Core.Path.{refl, ap}
-use Prim.Native.Nat.{ℕ, ◌+◌}
-use borrow.Author.Tests.{lt-ltb, le-ltb}
+use Rattle.std.proofs.Common.{refl, ap, ℕ, ◌+◌, lt-ltb, le-ltb}
 use Rattle.numbers.proofs.Tests.{below_of, not_below_of}
 use Rattle.records.specs.Stream.{next_record}
 use Rattle.records.proofs.stream.next_record.Goals as goal

@@ -1,8 +1,4 @@
-use mathlib.Core.Path.{◌∙◌}
-use Prim.Native.Nat.{◌+◌}
-use native.Mathlib.Omega.{arith}
-use lib.ListN.{length}
-use borrow.Author.Tests.{leb-true}
+use Rattle.std.proofs.Common.{◌∙◌, ◌+◌, arith, length, leb-true}
 use Rattle.numbers.proofs.Tests.{flag}
 use Rattle.report.specs.Printed.{pair_most}
 use Rattle.report.specs.Passes.{close_answer}

@@ -1,6 +1,4 @@
-use Prim.Native.Nat.{◌+◌, ◌^◌}
-use native.Mathlib.Omega.{arith}
-use borrow.Author.Tests.{lt-ltb, le-ltb}
+use Rattle.std.proofs.Common.{◌+◌, ◌^◌, arith, lt-ltb, le-ltb}
 use Rattle.report.specs.Passes.{countable}
 use Rattle.report.proofs.pass.countable.Goals as goal
 

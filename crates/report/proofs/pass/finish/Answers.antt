@@ -1,10 +1,4 @@
-use mathlib.Core.Path.{◌≡◌, sym, ap, ◌∙◌}
-use mathlib.Core.Bool.{Bool, true}
-use lib.Dec.{leb}
-use Prim.Native.Nat.{ℕ, ◌+◌, ◌^◌, ◌≤◌, ◌<◌}
-use native.Mathlib.Omega.{arith}
-use lib.ListN.{length}
-use borrow.Author.Tests.{leb-true}
+use Rattle.std.proofs.Common.{◌≡◌, sym, ap, ◌∙◌, Bool, true, leb, ℕ, ◌+◌, ◌^◌, ◌≤◌, ◌<◌, arith, length, leb-true}
 use Rattle.numbers.proofs.Tests.{flag}
 use Rattle.report.specs.declared.pass.Tally.{Tally}
 use Rattle.report.specs.Passes.{is_countable, closed, room}

@@ -1,7 +1,5 @@
-use mathlib.Core.Path.{◌∙◌}
-use Prim.Native.Nat.{◌-◌, ◌^◌}
-use native.Mathlib.Omega.{arith}
-use borrow.Author.Tests.{le-leb, lt-leb}
+use Rattle.std.proofs.Common.{◌∙◌, ◌-◌, ◌^◌, arith, le-leb}
+use borrow.Author.Tests.{lt-leb}
 use Rattle.numbers.proofs.Tests.{passed, failed, fits_below}
 use Rattle.report.specs.Passes.{is_countable}
 use Rattle.report.proofs.pass.is_countable.Goals as goal

@@ -1,9 +1,4 @@
-use mathlib.Core.Path.{◌≡◌, refl, sym, ap, ◌∙◌}
-use mathlib.Core.List.{List}
-use Prim.Native.Nat.{ℕ, suc, ◌+◌, ◌≤◌}
-use native.Mathlib.Omega.{arith}
-use lib.ListN.{length, drop, length-drop}
-use borrow.Author.Rules.{rules}
+use Rattle.std.proofs.Common.{◌≡◌, refl, sym, ap, ◌∙◌, List, ℕ, suc, ◌+◌, ◌≤◌, arith, length, drop, length-drop, rules}
 use Rattle.records.specs.declared.stream.Next.TheVariants.{Whole}
 use Rattle.records.specs.Stream.{next_record}
 use Rattle.records.proofs.FormatLaws.{broken_least, whole_least, whole_not_broken}

@@ -1,5 +1,4 @@
-use Prim.Native.Nat.{◌-◌}
-use lib.ListN.{length}
+use Rattle.std.proofs.Common.{◌-◌, length}
 use Rattle.report.specs.Passes.{state_of}
 use Rattle.report.proofs.Passing.{Going}
 use Rattle.report.proofs.pass.pass_over.Given as goal

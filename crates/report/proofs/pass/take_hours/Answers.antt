@@ -1,5 +1,4 @@
-use mathlib.Core.Path.{ap}
-use native.Mathlib.Omega.{arith}
+use Rattle.std.proofs.Common.{ap, arith}
 use Rattle.report.specs.Passes.{with_hours}
 use Rattle.report.proofs.Passing.{hours_next}
 use Rattle.report.proofs.pass.take_hours.Goals as goal

@@ -1,8 +1,4 @@
-use mathlib.Core.Path.{sym, ◌∙◌}
-use native.Mathlib.Omega.{arith}
-use lib.ListN.{length}
-use lib.Seq.{length-take-le, take_all}
-use borrow.Author.Rules.{rules}
+use Rattle.std.proofs.Common.{sym, ◌∙◌, arith, length, length-take-le, take_all, rules}
 use Rattle.report.specs.Passes.{pass_answer}
 use Rattle.report.proofs.Passing.{pass_ready, countable_fits, countable_all, held_is_ready, held_tried}
 use Rattle.report.proofs.pass.take_records.Goals as goal

@@ -1,4 +1,4 @@
-use native.Mathlib.Omega.{arith}
+use Rattle.std.proofs.Common.{arith}
 use Rattle.report.proofs.Passing.{refused_state, accepted_state}
 use Rattle.report.proofs.pass.try_record.Goals as goal
 

@@ -1,4 +1,4 @@
-use native.Mathlib.Omega.{arith}
+use Rattle.std.proofs.Common.{arith}
 use Rattle.report.proofs.Texts.{number_one, tenth_ends, number_more}
 use Rattle.report.proofs.text.+put_number.Goals as goal
 

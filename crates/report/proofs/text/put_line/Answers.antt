@@ -1,4 +1,4 @@
-use native.Mathlib.Omega.{arith}
+use Rattle.std.proofs.Common.{arith}
 use Rattle.report.specs.Printed.{signed, field, party_line}
 use Rattle.report.proofs.Texts.{put_more, put_read}
 use Rattle.report.proofs.text.put_line.Goals as goal

@@ -1,6 +1,4 @@
-use mathlib.Core.Path.{refl}
-use native.Mathlib.Omega.{arith}
-use borrow.Author.Rules.{rules}
+use Rattle.std.proofs.Common.{refl, arith, rules}
 use Rattle.report.proofs.Texts.{lines_none, lines_more}
 use Rattle.report.proofs.text.put_lines.Goals as goal
 

@@ -1,6 +1,4 @@
-use mathlib.Core.Path.{◌≡◌}
-use Prim.Native.Nat.{◌+◌, ◌-◌, ◌*◌, ◌≤◌}
-use lib.ListN.{length}
+use Rattle.std.proofs.Common.{◌≡◌, ◌+◌, ◌-◌, ◌*◌, ◌≤◌, length}
 use Rattle.records.specs.Format.{party_count}
 use Rattle.report.specs.Printed.{party_lines, line_most, Put}
 use Rattle.report.proofs.text.put_lines.Given as goal

@@ -1,5 +1,4 @@
-use native.Mathlib.Omega.{arith}
-use borrow.Author.Tests.{eq-eqb, ne_eqb}
+use Rattle.std.proofs.Common.{arith, eq-eqb, ne_eqb}
 use Rattle.numbers.proofs.Tests.{flag}
 use Rattle.rules.specs.Hours.{derated_watts}
 use Rattle.rules.proofs.hour.derated_watts.Goals as goal

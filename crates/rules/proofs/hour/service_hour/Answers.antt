@@ -1,5 +1,5 @@
-use native.Mathlib.Omega.{arith}
-use borrow.Author.Tests.{le-leb, lt-leb}
+use Rattle.std.proofs.Common.{arith, le-leb}
+use borrow.Author.Tests.{lt-leb}
 use Rattle.numbers.proofs.Tests.{flag}
 use Rattle.rules.specs.Hours.{service_hour}
 use Rattle.rules.proofs.hour.service_hour.Goals as goal

@@ -1,4 +1,4 @@
-use native.Mathlib.Omega.{arith}
+use Rattle.std.proofs.Common.{arith}
 use Rattle.numbers.proofs.Tests.{flag, within_from}
 use Rattle.rules.specs.Rules.{index}
 use Rattle.rules.proofs.Named.{indexed}

@@ -1,5 +1,6 @@
+use Rattle.std.proofs.Common.{le-leb}
 use mathlib.Core.Bool.{and-true}
-use borrow.Author.Tests.{le-leb, lt-leb}
+use borrow.Author.Tests.{lt-leb}
 use Rattle.numbers.proofs.Tests.{flag}
 use Rattle.rules.specs.Refusal.{in_range, numbers_fit, days_fit}
 use Rattle.rules.proofs.ranges.commitment_fits.Goals as goal

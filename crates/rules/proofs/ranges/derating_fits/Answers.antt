@@ -1,4 +1,4 @@
-use borrow.Author.Tests.{eq-eqb, ne_eqb}
+use Rattle.std.proofs.Common.{eq-eqb, ne_eqb}
 use Rattle.rules.specs.Refusal.{derating_fits}
 use Rattle.rules.proofs.ranges.derating_fits.Goals as goal
 

@@ -1,5 +1,4 @@
-use mathlib.Core.Path.{refl}
-use borrow.Author.Tests.{eq-eqb, ne_eqb}
+use Rattle.std.proofs.Common.{refl, eq-eqb, ne_eqb}
 use Rattle.numbers.proofs.Tests.{flag, at_most_of, not_at_most_of}
 use Rattle.rules.specs.Hours.{hour_index}
 use Rattle.rules.specs.Refusal.{refusal_of}

@@ -1,4 +1,4 @@
-use borrow.Author.Tests.{eq-eqb, ne_eqb}
+use Rattle.std.proofs.Common.{eq-eqb, ne_eqb}
 use Rattle.numbers.proofs.Tests.{flag}
 use Rattle.rules.specs.Refusal.{refusal_of, in_range}
 use Rattle.rules.proofs.refusal.load.Goals as goal
