@@ -1,4 +1,4 @@
-# make test    the gate: every crate proved from nothing, every must-fail edit refused, then the host tests
+# make test    the gate: rt ci (every crate proved, every must-fail edit refused), then the host tests
 # make run     ledger on the worked example, or on the records in FILE
 # make bench   the speed of ledger beside that of the second program, on a year of 32 units
 # make ledger  proves and builds target/bin/ledger
@@ -10,17 +10,17 @@ export WEEK = 2011-07-04
 
 LEDGER = target/bin/ledger
 ARCHIVE = target/staticlib/libcalendar.a
-parts = $(shell find $(foreach crate,$(1),crates/$(crate)/src crates/$(crate)/specs crates/$(crate)/proofs) -type f)
+parts = $(shell find $(wildcard $(foreach crate,$(1),crates/$(crate)/src crates/$(crate)/specs crates/$(crate)/proofs)) -type f)
 RUST = rustc --edition 2021 -O
 
-# tests/host/edits reads what rt ci left
+# tests/host/edits reads what rt ci said
 HOST = edits contracts reckoning promises format layout quantities peak_hour peak_week tally kit ledger tools streams run
 
 .PHONY: test run bench ledger week archive
 
 test:
 	@tests/kit
-	@tests/tally 'rt ci' $(HOST:%=tests/host/%)
+	@tests/tally tests/ci $(HOST:%=tests/host/%)
 
 run: $(LEDGER)
 	@tools/run "$$FILE"
@@ -35,16 +35,18 @@ week: target/peak_week
 
 archive: $(ARCHIVE)
 
+# rt run proves the program, builds it and runs it once, here on no records
 $(LEDGER): $(call parts,numbers calendar capacity money records rules book report ledger)
 	@echo 'proving and building ledger (some four minutes from nothing)' >&2
-	@mkdir -p target
-	@rt check ledger >target/ledger.log 2>&1 || { cat target/ledger.log >&2; exit 1; }
-	@touch $@
+	@mkdir -p $(@D)
+	@cd crates/ledger && rt run </dev/null >../../target/ledger.log 2>&1 || { cat ../../target/ledger.log >&2; exit 1; }
+	@cp -f crates/ledger/out/ledger $@
 
-$(ARCHIVE): $(call parts,calendar)
+$(ARCHIVE): $(call parts,numbers calendar calendar_c)
 	@echo 'proving calendar and writing $@ (some ten seconds)' >&2
-	@mkdir -p target
-	@rt staticlib calendar >target/staticlib.log 2>&1 || { cat target/staticlib.log >&2; exit 1; }
+	@mkdir -p $(@D)
+	@cd crates/calendar_c && rt lib >../../target/staticlib.log 2>&1 || { cat ../../target/staticlib.log >&2; exit 1; }
+	@cp -f crates/calendar_c/out/libcalendar_c.a $@
 
 target/peak_week: $(ARCHIVE) examples/peak_week.c include/peak_hour.h
 	@gcc -std=c11 -O2 -Wall -Wextra -Iinclude examples/peak_week.c $(ARCHIVE) -o $@

@@ -1,6 +1,6 @@
 /* The peak question of the peak-hour availability book, for controllers' firmware.
 
-   Link with the archive that `rt staticlib calendar` writes, target/staticlib/libcalendar.a.
+   Link with the archive that `make archive` writes, target/staticlib/libcalendar.a.
    The function takes any four numbers, keeps no state, allocates nothing and always returns. */
 
 #ifndef PEAK_HOUR_H

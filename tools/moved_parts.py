@@ -10,7 +10,7 @@ Key = collections.namedtuple("Key", "place name")
 Definition = collections.namedtuple("Definition", "name text fields")
 Item = collections.namedtuple("Item", "key is_function is_public text body")
 Tree = collections.namedtuple("Tree", "definitions functions types laws proofs lemmas edits lines")
-Times = collections.namedtuple("Times", "crates edits gate failed")
+Times = collections.namedtuple("Times", "checks proved edits gate failed")
 
 STRING = r'"(?:\\.|[^"\\])*"'
 
@@ -23,14 +23,15 @@ def blanked(text):
 
 ANTT_COMMENT = re.compile(rf"({STRING})|\{{-.*?-\}}|(?<![^\s(){{}};,.])--[^\n]*", re.S)
 ANTT_WORD = re.compile(rf"{STRING}|[(){{}};,]|[^\s(){{}};,]+")
-CRATE_OF_PATH = re.compile(r"Rattle·\w+(?:·(?:specs|proofs))?\.")
+# Rattle.low.specs.Sums; in older revisions Rattle·low.specs.Sums, or Rattle·low·specs.specs.Sums
+CRATE_OF_PATH = re.compile(r"Rattle(?:\.\w+|·\w+(?:·(?:specs|proofs))?)\.")
 ALIAS = re.compile(r"^ *(?:pub )?use \S*?([^\s.]+) as (\S+)$", re.M)
 
 NAME = r"[^\s(){};,=]+"
 SIGNATURE = re.compile(rf"({NAME}(?: {NAME})*?) :(?=\s|$)")
-IMPORT = re.compile(r"(?:pub )?(?:use|mod|open|infix[lr]?|ruleset)(?=\s|$)")
+IMPORT = re.compile(r"(?:pub )?(?:use|mod|open|infix[lr]?|ruleset|syntax)(?=\s|$)")
 ENCLOSING = re.compile(r"(?:pub )?(?:module (\S+)|mutual)(?=\s|$)")
-NAMED = re.compile(r"(?:(?:pub|abbrev|unfoldable) )*((?:record|data)(?=\s)|axiom(?=\s))?\s*")
+NAMED = re.compile(r"(?:(?:pub|abbrev|unfoldable|opaque) )*((?:record|data)(?=\s)|axiom(?=\s))?\s*")
 
 
 def antt_words(text):
@@ -112,7 +113,7 @@ def definitions(text, crates):
 RT_HIDDEN = re.compile(rf"(//[^\n]*|/\*.*?\*/)|b?{STRING}|b?'(?:\\.|[^\\'])'", re.S)
 RT_WORD = re.compile(rf"b?{STRING}|\w+|[^\w\s]")
 ITEM = re.compile(r"""(?P<pub>\bpub(?:\s*\([^)]*\))?\s+)?(?:(?:const\s+|unsafe\s+|extern\s+"[^"]*"\s+)*\bfn\s+(?P<fn>\w+)"""
-                  r"""|\b(?:struct|enum|const)\s+(?P<type>\w+))|\bimpl\b(?P<impl>[^{;]*)\{|\bmod\s+(?P<mod>\w+)\s*\{""")
+                  r"""|\b(?:struct|enum|const)\s+(?P<type>\w+))|\bimpl\b(?P<impl>[^{;]*)\{|\b(?:mod|trait)\s+(?P<mod>\w+)[^{;]*\{""")
 SIGNATURE_PART = re.compile(r"[(\[]|[)\]]|[{;]|\b(?:requires|ensures|ghost)\b")
 
 
@@ -199,7 +200,7 @@ def public_files(texts):
     return found
 
 
-STATEMENT_IMPORT = re.compile(r"\bRattle·(\w+?)(?:·specs)?\.specs\.([\w./-]+)\.\{([^}]*)\}")
+STATEMENT_IMPORT = re.compile(r"\bRattle[.·](\w+?)(?:·specs)?\.specs\.([\w./-]+)\.\{([^}]*)\}")
 
 
 def imported_statements(text):
@@ -234,12 +235,17 @@ def add_code(tree, crate, texts, crates):
             (tree.functions if item.is_function else tree.types)[item.key] = item
 
 
+# a function's proof: what it has of these
+PROOF_FILES = ("Invariants", "Answers", "Proof")
+
+
 def add_proofs(tree, crate, texts, crates):
-    for file, text in texts.items():
+    for file, text in sorted(texts.items()):
         found = definitions(text, crates)
-        if os.path.basename(file) == "Proof":
+        if "/" in file and os.path.basename(file) in PROOF_FILES:
             place, _, name = module_of(crate, os.path.dirname(file)).removesuffix("::").rpartition("::")
-            tree.proofs[Key(f"{place}::", name)] = "\n".join(definition.text for definition in found)
+            key = Key(f"{place}::", name)
+            tree.proofs[key] = "\n".join([tree.proofs.get(key, ""), *(definition.text for definition in found)])
         else:
             tree.lemmas.update((Key(f"{crate}/{file}.", definition.name), definition) for definition in found)
 
@@ -286,17 +292,19 @@ def parts_of(files, crates):
 
 # The log of a gate
 
-CRATE_TIME = re.compile(r"^rt: (\S+) proved \((\d+) s\)$", re.M)
-EDIT_TIME = re.compile(r"^rt: must-fail (\S+?)/(\S+): refused, as it must be \((?:.*; )?(\d+) s\)$", re.M)
+CRATE_TIME = re.compile(r"^rt: (\S+) proved \((\d+) s\)$", re.M)  # as older Rattles said it
+PROVED = re.compile(r"^ci: (\S+) proved after (\d+) s$", re.M)
+EDIT = re.compile(r"^rt: must-fail (\S+?)/(\S+?)(?:\.edit)?: refused, as it must be(?: \((?:.*; )?(\d+) s\)$)?", re.M)
 GATE_TIME = re.compile(r"^real\s+(?:(\d+)m)?(\d+(?:[.,]\d+)?)s?$", re.M)
 COUNT = re.compile(r"^\d+ passed, (\d+) failed$", re.M)
 
 
 def times(text):
-    """Seconds: of each crate, of the edits of each crate, and of the whole gate where `time` was before it."""
+    """Seconds: of the check of each crate, from the start of rt ci until a crate was proved, of the edits of each crate (None
+    where the log has no time), and of the whole gate where `time` was before it."""
     edits = collections.defaultdict(dict)
-    for crate, edit, seconds in EDIT_TIME.findall(text):
-        edits[crate][edit] = int(seconds)
-    crates = {crate: int(seconds) for crate, seconds in CRATE_TIME.findall(text)}
+    for crate, edit, seconds in EDIT.findall(text):
+        edits[crate][edit] = int(seconds) if seconds else None
+    checks, proved = ({crate: int(seconds) for crate, seconds in line.findall(text)} for line in (CRATE_TIME, PROVED))
     gate = [int(minutes or 0) * 60 + round(float(seconds.replace(",", "."))) for minutes, seconds in GATE_TIME.findall(text)]
-    return Times(crates, edits, gate[-1] if gate else None, COUNT.findall(text)[-1:] not in ([], ["0"]))
+    return Times(checks, proved, edits, gate[-1] if gate else None, COUNT.findall(text)[-1:] not in ([], ["0"]))

@@ -1,4 +1,4 @@
-// The peak question, for the controllers' C firmware (include/peak_hour.h).
+// The peak question. `calendar_c` offers it to the controllers' C firmware (include/peak_hour.h).
 ghost use Rattle.std.specs.Prelude.{◌≡◌};
 ghost use Rattle.calendar.specs.Peak.{is_answered, peak_answer};
 
@@ -18,8 +18,7 @@ fn is_answered(year: u64, month: u64, day: u64, hour_ending: u64) -> bool
 }
 
 // 1 peak, 0 not, 2 where there is no answer.
-#[unsafe(no_mangle)]
-pub extern "C" fn peak_hour(year: u32, month: u32, day: u32, hour_ending: u32) -> u32
+pub fn peak_hour(year: u32, month: u32, day: u32, hour_ending: u32) -> u32
     ensures { result ≡ peak_answer year month day hour_ending }
 {
     let y = year as u64;
