@@ -38,6 +38,6 @@ pub record CapacityBounds : Type 0 where
       → sum_below 16 (λ p. above (net n (λ u. split_signed (S u) 16 (w u)) p)) ≤ net_most
   pub excesses_bound : (n : ℕ) (S : ℕ → ℤ) (w : ℕ → ℕ → ℕ) → n ≤ 32 → ((u : ℕ) → nat_abs (S u) ≤ installed_most)
       → sum_below 16 (λ p. below (net n (λ u. split_signed (S u) 16 (w u)) p)) ≤ net_most
-  -- so that adding up an area's nets share by share never meets the bound of `netWith`
+  -- so that adding up an area's nets share by share never meets the bound of `net_with`
   pub net_steps : (n : ℕ) (S : ℕ → ℤ) (w : ℕ → ℕ → ℕ) (p : ℕ) → n < 32 → p < 16 → ((u : ℕ) → nat_abs (S u) ≤ installed_most)
       → net_with (net n (λ u. split_signed (S u) 16 (w u)) p) (split_signed (S n) 16 (w n) p) ≡ net (n + 1) (λ u. split_signed (S u) 16 (w u)) p

@@ -136,15 +136,15 @@ module _ (b : Book) (s : List ℕ) (ss : List (List ℕ)) {a : Answer} (e : a �
       rw place (stored_within (k + length amounts) put more ∙ sym (stored_append k l amounts more) ∙ all)
 
 -- The loop of `run`: after i strings, what is left to do is what was to do at first.
-pub record Going (bytes ends firstNumbers : List ℕ) (first_lines : List ℤ) (numbers : List ℕ) (lines : List ℤ) (b : Book) (from next i : ℕ) : Type 0 where
+pub record Going (bytes ends first_numbers : List ℕ) (first_lines : List ℤ) (numbers : List ℕ) (lines : List ℤ) (b : Book) (from next i : ℕ) : Type 0 where
   pub there : i ≤ length ends
   pub room : next ≤ length lines
-  pub numbers_length : length numbers ≡ length firstNumbers
+  pub numbers_length : length numbers ≡ length first_numbers
   pub lines_length : length lines ≡ length first_lines
   pub sound : Sound b
   pub book_left : book_after b (strings_from from bytes (drop i ends)) ≡ book_after empty_book (strings bytes ends)
   pub numbers_left : stored_from i numbers (all_numbers (run b (strings_from from bytes (drop i ends))))
-      ≡ stored_from 0 firstNumbers (all_numbers (from_empty (strings bytes ends)))
+      ≡ stored_from 0 first_numbers (all_numbers (from_empty (strings bytes ends)))
   pub lines_left : stored_from next lines (all_lines (run b (strings_from from bytes (drop i ends))))
       ≡ stored_from 0 first_lines (all_lines (from_empty (strings bytes ends)))
 
@@ -162,16 +162,16 @@ module _ (bytes ends numbers : List ℕ) (lines : List ℤ) where
         lines_left = rw e;
       }
 
-module _ {bytes ends firstNumbers numbers : List ℕ} {first_lines lines : List ℤ} {b : Book} {from next i : ℕ}
-    (g : Going bytes ends firstNumbers first_lines numbers lines b from next i) where
+module _ {bytes ends first_numbers numbers : List ℕ} {first_lines lines : List ℤ} {b : Book} {from next i : ℕ}
+    (g : Going bytes ends first_numbers first_lines numbers lines b from next i) where
   pub going_more : {end : ℕ} {s : List ℕ} {a : Answer} → i < length ends → end ≡ get_or ends i 0 → s ≡ take (end - from) (drop from bytes)
       → a ≡ entered b s → Sound a.book
-      → {putNumbers : List ℕ} {putLines : List ℤ} {after : ℕ} → putNumbers ≡ set numbers i a.number → putLines ≡ stored_from next lines (amounts_of a.lines)
-      → after ≡ min (next + length a.lines) (length lines) → Going bytes ends firstNumbers first_lines putNumbers putLines a.book end after (i + 1)
-  going_more {end} {s} {a} h e part answer sound {putNumbers} {putLines} {after} n l k =
+      → {put_numbers : List ℕ} {put_lines : List ℤ} {after : ℕ} → put_numbers ≡ set numbers i a.number → put_lines ≡ stored_from next lines (amounts_of a.lines)
+      → after ≡ min (next + length a.lines) (length lines) → Going bytes ends first_numbers first_lines put_numbers put_lines a.book end after (i + 1)
+  going_more {end} {s} {a} h e part answer sound {put_numbers} {put_lines} {after} n l k =
       let ss = strings_from end bytes (drop (i + 1) ends) in
       let rest : s ∷ ss ≡ strings_from from bytes (drop i ends) = rw part (sym (strings_more from bytes ends i h e)) in
-      let size : length putLines ≡ length lines = ap length l ∙ stored_length next lines (amounts_of a.lines) in
+      let size : length put_lines ≡ length lines = ap length l ∙ stored_length next lines (amounts_of a.lines) in
       record {
         there = omega arith;
         room = omega arith;
@@ -194,9 +194,9 @@ module _ {bytes ends firstNumbers numbers : List ℕ} {first_lines lines : List 
     pub going_book : b ≡ book_after empty_book (strings bytes ends)
     going_book = ap (book_after b) (sym none) ∙ g.book_left
 
-    pub going_numbers : numbers ≡ stored firstNumbers (all_numbers (from_empty (strings bytes ends)))
+    pub going_numbers : numbers ≡ stored first_numbers (all_numbers (from_empty (strings bytes ends)))
     unfolding stored_from run
-    going_numbers = ap (λ (x : List (List ℕ)). stored_from i numbers (all_numbers (run b x))) (sym none) ∙ g.numbers_left ∙ stored_whole firstNumbers _
+    going_numbers = ap (λ (x : List (List ℕ)). stored_from i numbers (all_numbers (run b x))) (sym none) ∙ g.numbers_left ∙ stored_whole first_numbers _
 
     pub going_lines : lines ≡ stored first_lines (all_lines (from_empty (strings bytes ends)))
     unfolding stored_from run flat_map

@@ -33,7 +33,7 @@ pub record Format : Type 0 where
 abbrev pub field : ℕ → ℕ → ℕ → ℕ → Field
 field offset width least most = record { offset = offset; width = width; holds = within least most }
 
--- a field that has no range but a rule of the whole record (`ownRule` of Refusal)
+-- a field that has no range but a rule of the whole record (`own_rule` of Refusal)
 abbrev pub ruled_at : ℕ → ℕ → Field
 ruled_at o width = record { offset = o; width = width; holds = λ n. true }
 

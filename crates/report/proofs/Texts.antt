@@ -57,7 +57,7 @@ digits_most_lem (suc k) n h = go (ltb n 10) refl (digits_most_lem k (n / 10))
         let tenth : n / 10 < 10 ^ suc k = (div-lt_iff_lt-mul (lit< tt)).1 (rw (pow-suc 10 (suc k)) at h) in
         rw (decimal_more n (ltb-false n 10 e), length-append) (omega (arith, fewer tenth))
 
--- a number of 64 bits is put within `digitsMost` places: it is one digit, or its tenth, which leaves a place, and one digit more
+-- a number of 64 bits is put within `digits_most` places: it is one digit, or its tenth, which leaves a place, and one digit more
 pub number_one : (n : ℕ) {a b : List ℕ} {from m : ℕ} → n < 10 → Put a from (digit n ∷ []) m b → Put a from (decimal n) m b × (m ≤ from + digits_most)
 number_one n h p = (rw (decimal_one n h) p, omega (arith, p.ends))
 
