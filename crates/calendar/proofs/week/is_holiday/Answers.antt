@@ -1,4 +1,5 @@
-use Rattle.std.proofs.Common.{ne_eqb}
+use Rattle.std.proofs.lemmas.Bool.Decides.{nat_tests}
+use Rattle.std.proofs.Common.{ne_eqb, arith}
 use mathlib.Core.Bool.{or-false}
 use Rattle.calendar.specs.Week.{is_holiday}
 use Rattle.calendar.proofs.week.is_holiday.Goals as goal
@@ -21,4 +22,4 @@ returns-in-7 c = simp c.in-7.is
 
 pub returns-in_default : goal.returns-in_default
 unfolding is_holiday
-returns-in_default c = simp (ne_eqb _ _ c.in_default.in_default-own.rest.0.0.1, ne_eqb _ _ c.in_default.in_default-own.rest.0.1, ne_eqb _ _ c.in_default.in_default-own.rest.1)
+returns-in_default c = grind (arith, nat_tests)

@@ -7,8 +7,8 @@ use Rattle.numbers.proofs.split.distribute.Goals as goal
 
 abbrev Here : goal.After-weight-sum → Type 0
 Here c =
-    let now-at = c.loop-k in
-    Turn c.args.amount c.args.weights.now c.args.z now-at.sum now-at.given now-at.k c.weight-sum.result
+    let turn_at = c.loop-k in
+    Turn c.args.amount c.args.weights.now c.args.z turn_at.sum turn_at.given turn_at.k c.weight-sum.result
 
 this_turn : (c : goal.After-weight-sum) → Here c
 this_turn c =

@@ -3,4 +3,4 @@ use Rattle.records.proofs.Numbers.{of_byte}
 use Rattle.records.proofs.decode.byte.Goals as goal
 
 pub returns : goal.returns
-returns c = (of_byte _ _, omega (arith, c.shared_slice_known-1.given c.args.from))
+returns c = (of_byte _ _, omega (arith, c.type_inv.s c.args.from))

@@ -1,5 +1,5 @@
-use Rattle.std.proofs.Common.{refl, sym, ◌∙◌, arith}
-use Rattle.numbers.proofs.Tests.{not_equal_of}
+use Rattle.std.proofs.lemmas.Bool.Decides.{nat_tests}
+use Rattle.std.proofs.Common.{sym, ◌∙◌, arith}
 use Rattle.records.specs.Decoded.{framed}
 use Rattle.records.proofs.Frames.{whole}
 use Rattle.records.proofs.decode.framed.Goals as goal
@@ -37,15 +37,4 @@ returns-in-7 c = simp (sym c.byte-tag.ensures.0 ∙ c.in-7.is, c.post.ensures)
 
 pub returns-in_default : goal.returns-in_default
 unfolding framed
-returns-in_default c =
-    let tag = c.byte-tag.ensures.0 in
-    let other = c.in_default.in_default-own.rest in
-    simp (
-      not_equal_of tag refl other.0.0.0.0.0.0.1,
-      not_equal_of tag refl other.0.0.0.0.0.1,
-      not_equal_of tag refl other.0.0.0.0.1,
-      not_equal_of tag refl other.0.0.0.1,
-      not_equal_of tag refl other.0.0.1,
-      not_equal_of tag refl other.0.1,
-      not_equal_of tag refl other.1,
-    )
+returns-in_default c = grind (arith, nat_tests, c.byte-tag.ensures.0)

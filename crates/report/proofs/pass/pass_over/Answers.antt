@@ -106,9 +106,6 @@ overflow_add-end c =
     let found = c.next_record-found.ensures ∙ ap next_record (rest_of c.args.s.now c.take_hours-taken.result.next) in
     omega (arith, (whole_ends c.args.s.now _ _ g.there (sym found ∙ c.in-Whole.is)).0)
 
-pub slice_bounds-try_record-start-in-Whole : goal.slice_bounds-try_record-start-in-Whole
-slice_bounds-try_record-start-in-Whole c = omega arith
-
 pub slice_bounds-try_record-end-in-Whole : goal.slice_bounds-try_record-end-in-Whole
 slice_bounds-try_record-end-in-Whole c =
     let g = counted_hours _ _ _ _ c.loop-out.out c.loop-out.tally c.loop-out.at c.loop-out.invariant (omega (arith, c.if-out-tally.false))
