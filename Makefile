@@ -37,7 +37,7 @@ archive: $(ARCHIVE)
 
 # rt run proves the program, builds it and runs it once, here on no records
 $(LEDGER): $(call parts,numbers calendar capacity money records rules book report ledger)
-	@echo 'proving and building ledger (some four minutes from nothing)' >&2
+	@echo 'proving and building ledger (some minutes from nothing)' >&2
 	@mkdir -p $(@D)
 	@cd crates/ledger && rt run </dev/null >../../target/ledger.log 2>&1 || { cat ../../target/ledger.log >&2; exit 1; }
 	@cp -f crates/ledger/out/ledger $@
