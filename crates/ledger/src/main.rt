@@ -150,8 +150,8 @@ fn take_turn<R: Read, W: Write>(
     }
 }
 
-// In whatever parts the input is read, what is printed is what the whole of it is answered with. A proved loop has to end, and
-// nothing says that the input does: the turns are counted, to a number that no run gets to.
+// In whatever parts the input is read, what is printed is what the whole of it is answered with, if the buffer holds a whole
+// record. A proved loop has to end, and nothing says that the input does: the turns are counted, to a number that no run gets to.
 fn run<R: Read, W: Write>(
     input: &mut R,
     output: &mut W,
@@ -182,7 +182,7 @@ fn run<R: Read, W: Write>(
     Err(Failure::TooLong)
 }
 
-fn has_argument(rt: &impl Env) -> bool {
+fn has_argument(rt: &HostRuntime) -> bool {
     let mut start = [0u8; 1];
     !matches!(rt.arg(1, &mut start), Err(FillError::NotPresent))
 }

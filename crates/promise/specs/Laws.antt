@@ -1,7 +1,7 @@
 -- What the reckoning's definitions give, for all lists, what it has in common with the book, and that any list of strings is
 -- that of a log.
-use Rattle.std.specs.Prelude.{◌≡◌, ℕ, ◌+◌, ◌+ℤ◌}
-use mathlib.Core.List.{List, [], ◌∷◌, map, flatten}
+use Rattle.std.specs.Prelude.{◌≡◌, List, [], ◌∷◌, map, ℕ, ◌+◌, ◌+ℤ◌}
+use mathlib.Core.List.{flatten}
 use Rattle.numbers.specs.Lists.{list_below}
 use Rattle.capacity.specs.Shortfall.{unit_watt_days, watt_days_of}
 use Rattle.records.specs.declared.format.Record.{Record}

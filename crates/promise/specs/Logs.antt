@@ -1,7 +1,7 @@
 -- A log: strings end to end in one slice, and in another the place where each of them ends. Bytes past the last end belong to
 -- no string.
-use mathlib.Core.List.{List, [], ◌∷◌, ◌++◌, map, flat_map}
-use Rattle.std.specs.Prelude.{ℕ, suc, ◌+◌, ◌-◌, ℤ, length, take, drop, set}
+use mathlib.Core.List.{flat_map}
+use Rattle.std.specs.Prelude.{List, [], ◌∷◌, ◌++◌, map, ℕ, suc, ◌+◌, ◌-◌, ℤ, length, take, drop, set}
 use Rattle.money.specs.declared.Cents.{Cents}
 use Rattle.promise.specs.Promise.{Entry, number_of}
 

@@ -1,8 +1,8 @@
 -- Demand 3. 01, Area money: "one claim about the whole list of strings, and not a claim for each record". The strings are any
 -- lists of numbers, of any length and content, and any number of them; refused ones are among them.
 -- Area and party number k of 01 is k − 1 here, as in rules' Facts.
-use Rattle.std.specs.Prelude.{◌≡◌, Bool, true, false, cond, ◌&&◌, ℕ, ◌+◌, ◌<◌, ℤ, pos, ◌+ℤ◌, eqb}
-use mathlib.Core.List.{List, [], ◌∷◌, map, Memᴰ}
+use Rattle.std.specs.Prelude.{◌≡◌, List, [], ◌∷◌, map, Bool, true, false, cond, ◌&&◌, ℕ, ◌+◌, ◌<◌, ℤ, pos, ◌+ℤ◌, eqb}
+use mathlib.Core.List.{Memᴰ}
 use Rattle.numbers.specs.Signed.{sum_below_ℤ}
 use Rattle.money.specs.Quantities.{cents_of}
 use Rattle.records.specs.Format.{party_count}

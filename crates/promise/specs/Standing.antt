@@ -1,7 +1,7 @@
 -- Standing facts. 01, Records: "the year, each unit's Unit record, the latest accepted record of each key, and the set of
 -- accepted Hour records of each unit". They are read from lists of accepted records.
-use Rattle.std.specs.Prelude.{◌≡◌, ◌↔◌, ℕ}
-use mathlib.Core.List.{List, Memᴰ}
+use Rattle.std.specs.Prelude.{◌≡◌, ◌↔◌, List, ℕ}
+use mathlib.Core.List.{Memᴰ}
 use Rattle.records.specs.declared.format.HourRecord.{HourRecord}
 use Rattle.records.specs.declared.format.Record.{Record}
 use Rattle.promise.specs.Reckoning.{year_of, latest_area, unit_of, latest_commitment, latest_obligation, accepted_hours}

@@ -1,6 +1,6 @@
 use Rattle.std.proofs.Common.{refl, ap, ◌∙◌}
 use Rattle.records.specs.Format.{year_format, area_format, unit_format, commitment_format, hour_format, load_format, post_format}
-use Rattle.records.proofs.OneKind.{another}
+use Rattle.records.proofs.OneKind.{of_another}
 use Rattle.rules.specs.Rules.{area_named, unit_named}
 use Rattle.book.specs.Steps.{post_answer}
 use Rattle.book.proofs.Answers.{number_is, refused, posted, stored_as, sound_answer}
@@ -72,13 +72,13 @@ pub returns-in_default : goal.returns-in_default
 returns-in_default c =
     let r = c.decode-r.result in
     stored_as c.args.self _ c.requires c.decode-r.ensures c.area_named-i.ensures.0 c.unit_named-j.ensures.0
-    c.asked_of.ensures c.refusal-n.ensures c.if-n-ne0.false refl (another post_format r tt (c.in_default.not-Post _)) c.without_lines-in_default.ensures
+    c.asked_of.ensures c.refusal-n.ensures c.if-n-ne0.false refl (of_another post_format r tt (c.in_default.not-Post _)) c.without_lines-in_default.ensures
     (simp (
-      another year_format r tt (c.in_default.not-Year _),
-      another area_format r tt (c.in_default.not-Area _),
-      another unit_format r tt (c.in_default.not-Unit _),
-      another commitment_format r tt (c.in_default.not-Commitment _),
-      another hour_format r tt (c.in_default.not-Hour _),
-      another load_format r tt (c.in_default.not-Load _),
-      another post_format r tt (c.in_default.not-Post _),
+      of_another year_format r tt (c.in_default.not-Year _),
+      of_another area_format r tt (c.in_default.not-Area _),
+      of_another unit_format r tt (c.in_default.not-Unit _),
+      of_another commitment_format r tt (c.in_default.not-Commitment _),
+      of_another hour_format r tt (c.in_default.not-Hour _),
+      of_another load_format r tt (c.in_default.not-Load _),
+      of_another post_format r tt (c.in_default.not-Post _),
     ))

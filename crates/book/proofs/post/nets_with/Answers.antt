@@ -1,10 +1,11 @@
-use Rattle.std.proofs.Common.{eq-eqb, ne_eqb}
+use Rattle.std.proofs.Common.{eq-eqb, arith}
+use Rattle.std.proofs.lemmas.Bool.Decides.{nat_tests}
 use Rattle.book.specs.Steps.{nets_with}
 use Rattle.book.proofs.post.nets_with.Goals as goal
 
 pub returns-then-of-this : goal.returns-then-of-this
 unfolding nets_with
-returns-then-of-this c = simp (ne_eqb _ _ c.if-of-this.true)
+returns-then-of-this c = grind (arith, nat_tests)
 
 pub returns : goal.returns
 unfolding nets_with
