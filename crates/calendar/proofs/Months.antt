@@ -1,5 +1,5 @@
 -- The months of a year, 0 to 12: computed tests, and what they say of each month.
-use Rattle.std.proofs.Common.{◌≡◌, refl, Bool, true, false, cond, ◌&&◌, ◌||◌, ℕ, ◌+◌, ◌<◌, ◌≤◌, arith, leb, ltb, eqb, eqb-true, ne_eqb, leb-true}
+use Rattle.std.proofs.Common.{◌≡◌, refl, Bool, true, false, cond, ◌&&◌, ◌||◌, ℕ, ◌+◌, zero, suc, ◌<◌, ◌≤◌, arith, leb, ltb, eqb, eqb-true, ne_eqb, leb-true, ltb-true, ltb-false, lt-ltb}
 use mathlib.Core.Bool.{and-false}
 use borrow.Author.Tests.{lt-leb}
 use Rattle.numbers.specs.Sum.{sum_below}
@@ -35,9 +35,6 @@ no_month leap m h =
     let not : (k : ℕ) → k ≤ 12 → eqb m k ≡ false = λ k le. ne_eqb m k (omega arith) in
     simp (not 2 (omega arith), not 4 (omega arith), not 6 (omega arith), not 9 (omega arith), not 11 (omega arith), lt-leb m 12 h, and-false)
 
-pub before_at : (leap : Bool) (m : ℕ) → m ≤ 12 → sum_below m (month_days false) + cond (leap && ltb 2 m) 1 0 ≡ sum_below m (month_days leap)
-before_at leap m h = eqb-true _ _ (before_pass leap m h)
-
 -- every month has a first day
 pub month_starts : (leap : Bool) (m : ℕ) → 1 ≤ m → m ≤ 12 → 1 ≤ month_days leap m
 month_starts leap m from to = leb-true _ _ (simp (ne_eqb m 0 (omega arith)) at (starts_pass leap m to))
@@ -68,5 +65,31 @@ unfolding sum_below month_days within
 before_june true = refl
 before_june false = refl
 
-pub before_small : (leap : Bool) (m : ℕ) → m ≤ 12 → sum_below m (month_days leap) ≤ 366
-before_small leap m h = omega (arith, sum_grows m 13 (month_days leap) (omega arith), year_months leap, year_small leap)
+-- after December no month adds a day
+pub all_before : (leap : Bool) (m : ℕ) → 12 < m → sum_below m (month_days leap) ≡ year_days leap
+unfolding sum_below
+all_before leap zero h = absurd (omega arith)
+all_before leap (suc m) h = go (ltb 12 m) refl (all_before leap m)
+  where
+    go : (t : Bool) → ltb 12 m ≡ t → (12 < m → sum_below m (month_days leap) ≡ year_days leap)
+        → sum_below (suc m) (month_days leap) ≡ year_days leap
+    go true q before = omega (arith, before (ltb-true 12 m q), no_month leap m (ltb-true 12 m q))
+    go false q before =
+        let e : m ≡ 12 = omega (arith, ltb-false 12 m q) in
+        rw e (year_months leap)
+
+pub before_small : (leap : Bool) (m : ℕ) → sum_below m (month_days leap) ≤ 366
+before_small leap m = go (ltb 12 m) refl
+  where
+    go : (t : Bool) → ltb 12 m ≡ t → sum_below m (month_days leap) ≤ 366
+    go true q = omega (arith, all_before leap m (ltb-true 12 m q), year_small leap)
+    go false q = omega (arith, sum_grows m 13 (month_days leap) (omega (arith, ltb-false 12 m q)), year_months leap, year_small leap)
+
+-- the days before a month, by those of a common year
+pub before_at : (leap : Bool) (m : ℕ) → sum_below m (month_days false) + cond (leap && ltb 2 m) 1 0 ≡ sum_below m (month_days leap)
+before_at leap m = go (ltb 12 m) refl leap refl
+  where
+    go : (t : Bool) → ltb 12 m ≡ t → (l : Bool) → leap ≡ l → sum_below m (month_days false) + cond (leap && ltb 2 m) 1 0 ≡ sum_below m (month_days leap)
+    go true q true e = rw (e, all_before true m (ltb-true 12 m q), all_before false m (ltb-true 12 m q), lt-ltb 2 m (omega (arith, ltb-true 12 m q))) refl
+    go true q false e = rw (e) (omega arith)
+    go false q l e = eqb-true _ _ (before_pass leap m (ltb-false 12 m q))
