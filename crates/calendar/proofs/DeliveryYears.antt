@@ -34,15 +34,15 @@ in_year y m d e = go (leb 6 m) refl
         record {
           from = rw (from_june y m june) (omega (arith, sum_grows 6 m (month_days (leap_year y)) june, f.from));
           to =
-            rw (from_june y m june)
-            (omega (
-              arith,
-              f.to,
-              sum_term m 13 (month_days (leap_year y)) (omega (arith, f.month)),
-              year_months (leap_year y),
-              before_june (leap_year y),
-              before_june (leap_year (y + 1)),
-            ));
+              rw (from_june y m june)
+              (omega (
+                arith,
+                f.to,
+                sum_term m 13 (month_days (leap_year y)) (omega (arith, f.month)),
+                year_months (leap_year y),
+                before_june (leap_year y),
+                before_june (leap_year (y + 1)),
+              ));
         }
     go false q =
         let may : m < 6 = leb-false 6 m q in
@@ -50,15 +50,15 @@ in_year y m d e = go (leb 6 m) refl
         record {
           from = rw (to_may y m may) (omega (arith, year_step y, before_june (leap_year y), f.from));
           to =
-            rw (to_may y m may)
-            (omega (
-              arith,
-              f.to,
-              sum_term m 6 (month_days (leap_year (y + 1))) may,
-              year_step y,
-              before_june (leap_year y),
-              before_june (leap_year (y + 1)),
-            ));
+              rw (to_may y m may)
+              (omega (
+                arith,
+                f.to,
+                sum_term m 6 (month_days (leap_year (y + 1))) may,
+                year_step y,
+                before_june (leap_year y),
+                before_june (leap_year (y + 1)),
+              ));
         }
 
 june_first : (y : ℕ) → is_delivery_date y 6 1 ≡ true

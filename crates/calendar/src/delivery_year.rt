@@ -9,7 +9,7 @@ use crate::gregorian::{Date, is_leap_year};
 pub fn delivery_days(year: u32) -> u32
     ensures { result ≡ delivery_days year }
 {
-    if is_leap_year(year as u64 + 1) { 366 } else { 365 }
+    365 + is_leap_year(year as u64 + 1) as u32
 }
 
 // A month and a day of a delivery year. They may be no date.
@@ -28,8 +28,11 @@ impl DeliveryDate {
         ensures month { result.month ≡ self.month }
         ensures day { result.day ≡ self.day }
     {
-        let year = if 6 <= self.month { self.year as u64 } else { self.year as u64 + 1 };
-        Date { year, month: self.month, day: self.day }
+        Date {
+            year: self.year as u64 + (self.month < 6) as u64,
+            month: self.month,
+            day: self.day,
+        }
     }
 
     // Whether the delivery year has this date.
@@ -48,7 +51,11 @@ impl DeliveryDate {
         if !self.is_date() {
             return 0;
         }
-        let first_june = Date { year: self.year as u64, month: 6, day: 1 };
+        let first_june = Date {
+            year: self.year as u64,
+            month: 6,
+            day: 1,
+        };
         (self.date().day_number() - first_june.day_number()) as u32
     }
 

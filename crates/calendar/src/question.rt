@@ -18,6 +18,11 @@ impl Date {
 pub fn is_peak_hour(year: u32, month: u32, day: u32, hour_ending: u32) -> Option<bool>
     ensures { peak_number result ≡ peak_answer year month day hour_ending }
 {
-    let date = Date { year: year as u64, month, day };
-    date.is_answered(hour_ending).then(|| date.is_peak(hour_ending))
+    let date = Date {
+        year: year as u64,
+        month,
+        day,
+    };
+    date.is_answered(hour_ending)
+        .then(|| date.is_peak(hour_ending))
 }

@@ -18,7 +18,11 @@ impl Date {
     fn third_monday(self) -> u64
         ensures { result ≡ third_monday self.year self.month }
     {
-        let first = Date { year: self.year, month: self.month, day: 1 };
+        let first = Date {
+            year: self.year,
+            month: self.month,
+            day: 1,
+        };
         1 + (7 - first.weekday()) % 7 + 14
     }
 
