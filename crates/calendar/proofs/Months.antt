@@ -58,18 +58,10 @@ before_june false = refl
 pub all_before : (leap : Bool) (m : ℕ) → 12 < m → sum_below m (month_days leap) ≡ year_days leap
 unfolding sum_below
 all_before leap zero h = absurd (omega arith)
-all_before leap (suc m) h = go (ltb 12 m) refl (all_before leap m)
+all_before leap (suc m) h = grind (arith, all_before leap m, no_month leap m, december)
   where
-    go : (t : Bool) → ltb 12 m ≡ t → (12 < m → sum_below m (month_days leap) ≡ year_days leap)
-        → sum_below (suc m) (month_days leap) ≡ year_days leap
-    go true q before = omega (arith, before (ltb-true 12 m q), no_month leap m (ltb-true 12 m q))
-    go false q before =
-        let e : m ≡ 12 = omega (arith, ltb-false 12 m q) in
-        rw e (year_months leap)
+    december : m ≡ 12 → sum_below (suc m) (month_days leap) ≡ year_days leap
+    december e = rw e (year_months leap)
 
 pub before_small : (leap : Bool) (m : ℕ) → sum_below m (month_days leap) ≤ 366
-before_small leap m = go (ltb 12 m) refl
-  where
-    go : (t : Bool) → ltb 12 m ≡ t → sum_below m (month_days leap) ≤ 366
-    go true q = omega (arith, all_before leap m (ltb-true 12 m q), year_small leap)
-    go false q = omega (arith, sum_grows m 13 (month_days leap) (omega (arith, ltb-false 12 m q)), year_months leap, year_small leap)
+before_small leap m = grind (arith, all_before leap m, sum_grows m 13 (month_days leap), year_months leap, year_small leap)
