@@ -1,5 +1,5 @@
 -- The day of the delivery year is one of its days.
-use Rattle.std.proofs.Common.{◌≡◌, refl, Bool, true, false, ℕ, ◌+◌, ◌≤◌, ◌<◌, arith, leb, leb-true, leb-false, le-leb}
+use Rattle.std.proofs.Common.{◌≡◌, refl, Bool, true, ℕ, ◌+◌, ◌≤◌, ◌<◌, arith}
 use Rattle.std.proofs.lemmas.Bool.Decides.{nat_tests}
 use Rattle.numbers.specs.Sum.{sum_below}
 use Rattle.numbers.specs.Range.{within}
@@ -10,29 +10,46 @@ use Rattle.calendar.proofs.Months.{year_small, year_months, before_june}
 use Rattle.calendar.proofs.Years.{year_step}
 use Rattle.calendar.proofs.Dates.{DateFacts, date_facts}
 
--- what a date of the delivery year has: it is one of the year's days, from 1 June on
-pub record InYear (y m d : ℕ) : Type 0 where
-  pub from : day_number y 6 1 ≤ day_number (calendar_year y m) m d
-  pub to : day_number (calendar_year y m) m d < day_number y 6 1 + delivery_days y
+-- day n is one of the days of delivery year y, which begin at 1 June
+pub record InYear (y n : ℕ) : Type 0 where
+  pub from : day_number y 6 1 ≤ n
+  pub to : n < day_number y 6 1 + delivery_days y
 
-from_june : (y m d : ℕ) → is_date y m d ≡ true → 6 ≤ m → (day_number y 6 1 ≤ day_number y m d) × (day_number y m d < day_number y 6 1 + delivery_days y)
+june_in_year : (y m d : ℕ) → is_date y m d ≡ true → 6 ≤ m → InYear y (day_number y m d)
 unfolding delivery_days day_number day_of_year
-from_june y m d e june =
+june_in_year y m d e june =
     let f : DateFacts y m d = date_facts y m d e in
-    let sum : sum_below m (month_days (leap_year y)) + month_days (leap_year y) m ≤ sum_below 13 (month_days (leap_year y)) = sum_term m 13 (month_days (leap_year y)) (omega (arith, f.month)) in
-    (omega (arith, sum_grows 6 m (month_days (leap_year y)) june),
-    omega (arith, year_months (leap_year y), before_june (leap_year y), before_june (leap_year (y + 1))))
+    record {
+      from = omega (arith, sum_grows 6 m (month_days (leap_year y)) june);
+      to =
+          omega (
+            arith,
+            sum_term m 13 (month_days (leap_year y)) (omega arith),
+            year_months (leap_year y),
+            before_june (leap_year y),
+            before_june (leap_year (y + 1)),
+          );
+    }
 
-to_may : (y m d : ℕ) → is_date (y + 1) m d ≡ true → m < 6 → (day_number y 6 1 ≤ day_number (y + 1) m d) × (day_number (y + 1) m d < day_number y 6 1 + delivery_days y)
+may_in_year : (y m d : ℕ) → is_date (y + 1) m d ≡ true → m < 6 → InYear y (day_number (y + 1) m d)
 unfolding delivery_days day_number day_of_year
-to_may y m d e may =
+may_in_year y m d e may =
     let f : DateFacts (y + 1) m d = date_facts (y + 1) m d e in
-    (omega (arith, year_step y, before_june (leap_year y)),
-    omega (arith, sum_term m 6 (month_days (leap_year (y + 1))) may, year_step y, before_june (leap_year y), before_june (leap_year (y + 1))))
+    record {
+      from = omega (arith, year_step y, before_june (leap_year y));
+      to =
+          omega (
+            arith,
+            sum_term m 6 (month_days (leap_year (y + 1))) may,
+            year_step y,
+            before_june (leap_year y),
+            before_june (leap_year (y + 1)),
+          );
+    }
 
-pub in_year : (y m d : ℕ) → is_delivery_date y m d ≡ true → InYear y m d
+pub in_year : (y m d : ℕ) → is_delivery_date y m d ≡ true → InYear y (day_number (calendar_year y m) m d)
 unfolding is_delivery_date calendar_year
-in_year y m d e = record { from = grind (arith, nat_tests, from_june y m d, to_may y m d); to = grind (arith, nat_tests, from_june y m d, to_may y m d) }
+in_year y m d e = grind (arith, nat_tests, june_in_year y m d, may_in_year y m d)
 
 june_first : (y : ℕ) → is_delivery_date y 6 1 ≡ true
 unfolding is_delivery_date calendar_year is_date within month_days

@@ -1,10 +1,8 @@
 -- The months of a year, 0 to 12: computed tests, and what they say of each month.
-use Rattle.std.proofs.Common.{◌≡◌, refl, Bool, true, false, cond, ◌&&◌, ◌||◌, ℕ, ◌+◌, zero, suc, ◌<◌, ◌≤◌, arith, leb, ltb, eqb, eqb-true, ne_eqb, leb-true, ltb-true, ltb-false, lt-ltb}
-use mathlib.Core.Bool.{and-false}
+use Rattle.std.proofs.Common.{◌≡◌, refl, Bool, true, false, cond, ◌&&◌, ℕ, ◌+◌, zero, suc, ◌<◌, ◌≤◌, arith, ltb, eqb}
 use Rattle.std.proofs.lemmas.Bool.Decides.{nat_tests}
 use Rattle.numbers.specs.Sum.{sum_below}
 use Rattle.numbers.specs.Range.{within}
-use Rattle.numbers.proofs.Tests.{all_below, each_below}
 use Rattle.numbers.proofs.Sums.{sum_grows}
 use Rattle.calendar.specs.Gregorian.{month_days}
 

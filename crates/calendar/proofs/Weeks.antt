@@ -1,12 +1,9 @@
 -- The third Monday, and the months of the peak periods.
-use Rattle.std.proofs.Common.{◌≡◌, refl, true, ⊎_elim, ℕ, ◌≤◌, arith}
-use mathlib.Core.Bool.{and-eq-true_iff}
+use Rattle.std.proofs.Common.{◌≡◌, refl, ℕ, ◌≤◌, arith}
 use Rattle.numbers.specs.Sum.{sum_below}
 use Rattle.numbers.specs.Range.{within}
-use Rattle.numbers.proofs.Tests.{or_cases, within_to}
 use Rattle.calendar.specs.Gregorian.{leap_year, month_days, multiples_below, days_before_year, day_of_year, day_number}
 use Rattle.calendar.specs.Week.{monday, tuesday, weekday, first_monday, third_monday}
-use Rattle.calendar.specs.Peak.{summer_peak, winter_peak, peak_period}
 
 pub known_weekday : weekday 2011 7 5 ≡ tuesday
 unfolding sum_below within leap_year month_days multiples_below days_before_year day_of_year day_number weekday

@@ -1,11 +1,7 @@
 -- The closed form for the days before a year is the sum of the years' days, 365 or 366.
-use Rattle.std.proofs.Common.{◌≡◌, refl, Bool, true, false, cond, not, ◌&&◌, ◌||◌, ℕ, zero, suc, ◌+◌, ◌-◌, ◌*◌, ◌/◌, ◌%◌, ◌≤◌, ◌<◌, div-add-mod'}
-use Rattle.std.proofs.Common.{mod-lt, add-mul, one-mul, add-one, arith, eqb, eqb-true}
-use native.Mathlib.Nat.{div-eq_of_lt-le}
-use borrow.Author.Tests.{eqb-false}
+use Rattle.std.proofs.Common.{◌≡◌, ℕ, ◌+◌, ◌≤◌}
+use Rattle.std.proofs.Common.{arith}
 use Rattle.std.proofs.lemmas.Bool.Decides.{nat_tests}
-use Rattle.numbers.specs.Sum.{sum_below}
-use Rattle.numbers.proofs.Sums.{sum_grows}
 use Rattle.calendar.specs.Gregorian.{leap_year, multiples_below, days_before_year}
 use Rattle.calendar.proofs.Months.{year_days}
 
