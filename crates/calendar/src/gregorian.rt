@@ -10,14 +10,6 @@ pub(crate) fn is_leap_year(year: u64) -> bool
     year % 4 == 0 && (year % 100 != 0 || year % 400 == 0)
 }
 
-#[tactic(auto, unfolding(crate::specs::Gregorian::days_before_year, crate::specs::Gregorian::multiples_below))]
-fn days_before_year(year: u64) -> u64
-    requires { year ≤ 2 ^ 32 }
-    ensures { (result ≡ days_before_year year) × (result < 2 ^ 41) }
-{
-    365 * year + (year + 3) / 4 - (year + 99) / 100 + (year + 399) / 400
-}
-
 // The days before each month in a common year.
 #[tactic(auto, using(crate::proofs::Months::none_before, crate::proofs::Months::all_before), unfolding(numbers::specs::Sum::sum_below, crate::specs::Gregorian::month_days, numbers::specs::Range::within))]
 fn days_before_month(month: u32) -> u32
@@ -70,6 +62,13 @@ impl Date {
         1 <= self.day && self.day <= self.days_of_month()
     }
 
+    #[tactic(auto, unfolding(crate::specs::Gregorian::days_before_year, crate::specs::Gregorian::multiples_below))]
+    fn days_before_year(self) -> u64
+        ensures { (result ≡ days_before_year self.year) × (result < 2 ^ 41) }
+    {
+        365 * self.year + (self.year + 3) / 4 - (self.year + 99) / 100 + (self.year + 399) / 400
+    }
+
     // The day that a leap year has more, from March on.
     fn leap_day(self) -> u64
         ensures { result ≡ cond (leap_year self.year && ltb 2 self.month) 1 0 }
@@ -88,6 +87,6 @@ impl Date {
     pub(crate) fn day_number(self) -> u64
         ensures { (result ≡ day_number self.year self.month self.day) × (result < 2 ^ 42) }
     {
-        days_before_year(self.year) + self.day_of_year()
+        self.days_before_year() + self.day_of_year()
     }
 }
