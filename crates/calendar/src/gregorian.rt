@@ -1,7 +1,7 @@
 // The Gregorian calendar.
 ghost use Rattle.std.specs.Prelude.{◌≡◌, false, cond, ◌&&◌, ◌≤◌, ◌<◌, ◌^◌, ltb};
 ghost use Rattle.numbers.specs.Sum.{sum_below};
-ghost use Rattle.calendar.specs.Gregorian.{leap_year, month_days, days_of_month, is_date, days_before_year, days_before_month, day_of_year, day_number};
+ghost use Rattle.calendar.specs.Gregorian.{leap_year, month_days, days_of_month, is_date, days_before_year, day_of_year, day_number};
 
 #[tactic(auto, unfolding(crate::specs::Gregorian::leap_year))]
 pub(crate) fn is_leap_year(year: u64) -> bool
