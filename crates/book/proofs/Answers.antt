@@ -15,9 +15,8 @@ use Rattle.rules.specs.Dues.{undistributed_in}
 use Rattle.rules.specs.Rules.{area_index, unit_index, area_named, unit_named, post_undistributed, asked_of, asked, refusal}
 use Rattle.book.specs.declared.Unit as unit
 use Rattle.book.specs.declared.Book.{Book}
-use Rattle.book.specs.declared.Answer.{Answer}
 use Rattle.book.specs.Books.{no_entry, facts_of_book, Sound}
-use Rattle.book.specs.Entered.{with_hour, posted_after, after, no_lines, post_lines, lines_of, answer, entered}
+use Rattle.book.specs.Entered.{Answer, with_hour, posted_after, after, no_lines, post_lines, lines_of, answer, entered}
 use Rattle.book.specs.Steps.{with_posted, post_answer}
 use Rattle.book.proofs.AreaMoney.{due_most_lem}
 use Rattle.book.proofs.Soundness.{entered_sound}

@@ -1,7 +1,8 @@
 -- A run of hours goes on with each accepted one and stops at the first record that is anything else or is refused.
 use Rattle.std.proofs.Common.{◌≡◌, refl, sym, ap, ◌∙◌, Bool, true, false, true≢false, List, ℕ, suc, ◌+◌, ◌-◌, ◌/◌, ◌≤◌, ◌<◌, min, arith, leb, length}
-use Rattle.std.proofs.Common.{take, drop, ne_eqb, leb-true}
-use native.Mathlib.Nat.{min-le_right}
+use Rattle.std.proofs.Common.{◌++◌, take, drop, length-append, ne_eqb}
+use Rattle.std.proofs.Math.Seq.{take-append_seam, drop-append_seam}
+use Rattle.std.proofs.lemmas.List.{drop-drop}
 use Rattle.numbers.specs.Range.{within}
 use Rattle.records.specs.declared.format.HourRecord.{HourRecord}
 use Rattle.records.specs.declared.format.Record.TheVariants.{Hour}
@@ -15,24 +16,10 @@ use Rattle.rules.specs.Rules.{index, area_index}
 use Rattle.rules.proofs.Fields.{numbers_fit_lem}
 use Rattle.rules.proofs.AcceptedRows as rows
 use Rattle.book.specs.declared.Book.{Book}
-use Rattle.book.specs.declared.Answer.{Answer}
-use Rattle.book.specs.Entered.{no_lines, answer, after, entered}
+use Rattle.book.specs.Books.{Sound}
+use Rattle.book.specs.Entered.{Answer, no_lines, answer, after, entered}
 use Rattle.book.specs.Runs.{hour_length, hour_bytes, is_accepted_hour, run, hours_of, hours_between}
 use Rattle.book.proofs.Answers.{before, refused, accepted}
-
--- the bytes of an Hour hold one more than what is left without them does
-one_more : (n : ℕ) → hour_length ≤ n → n / hour_length ≡ suc ((n - hour_length) / hour_length)
-one_more n e = omega arith
-
-none_more : (n : ℕ) → n < hour_length → n / hour_length ≡ 0
-none_more n e = omega arith
-
--- the slice that is read
-pub inside : (at to n : ℕ) {end : ℕ} → leb hour_length (end - at) ≡ true → end ≡ min to n → at + hour_length ≤ n
-inside at to n {end} more bound = omega (arith, leb-true hour_length (end - at) more, bound, min-le_right to n)
-
-pub twelve : (s : List ℕ) (at : ℕ) → take (at + hour_length - at) (drop at s) ≡ hour_bytes s at
-twelve s at = let size : at + hour_length - at ≡ hour_length = omega arith in ap (λ (k : ℕ). take k (drop at s)) size
 
 -- an Hour names no area
 pub no_area_lem : 0 ≡ area_index 0
@@ -75,28 +62,47 @@ module _ (b : Book) (s : List ℕ) {h : HourRecord} {n : ℕ} (read : h ≡ hour
           rw (q, sym (ap (λ (x : Answer). x.number) given), ne_eqb n 0 ne)
       go false q = rw q
 
--- The loop of `hours`, at a place `at` before `end`: what is left to do there is what was to do at first.
-module _ (s : List ℕ) (first b : Book) (from at end : ℕ)
-    (left : hours_of ((end - at) / hour_length) b s at ≡ hours_of ((end - from) / hour_length) first s from) where
-  pub goes_on : {b' : Book} → leb hour_length (end - at) ≡ true → is_accepted_hour b (hour_bytes s at) ≡ true → answer 0 no_lines b' ≡ entered b (hour_bytes s at)
-      → hours_of ((end - (at + hour_length)) / hour_length) b' s (at + hour_length) ≡ hours_of ((end - from) / hour_length) first s from
+-- The loop of `hours`, where `rest` is not read yet: what is left to do there is what was to do at first.
+pub record HoursLeft (first : Book) (s : List ℕ) (b : Book) (end : ℕ) (rest : List ℕ) : Type 0 where
+  pub rest_is : rest ≡ drop end s
+  pub left : hours_of (length rest / hour_length) b s end ≡ hours_between first s 0 (length s)
+  pub sound : Sound b
+
+pub all_left : (b : Book) (s : List ℕ) {rest : List ℕ} → rest ≡ s → Sound b → HoursLeft b s b 0 rest
+all_left b s {rest} e sound =
+    let same : length rest / hour_length ≡ (min (length s) (length s) - 0) / hour_length = omega (arith, ap length e) in
+    record { rest_is = e; left = ap (λ (k : ℕ). hours_of k b s 0) same; sound = sound }
+
+module _ {first b : Book} {s : List ℕ} {end : ℕ} {rest : List ℕ} (h : HoursLeft first s b end rest) where
+  module _ (x more : List ℕ) (cut : rest ≡ x ++ more) (long : length x ≡ hour_length) where
+    -- the record that is read, and what is left after it
+    pub read_is : hour_bytes s end ≡ x
+    read_is = rw (sym h.rest_is, cut, ← long) (take-append_seam x more)
+
+    rest_more : more ≡ drop (end + hour_length) s
+    rest_more = sym (drop-append_seam x more) ∙ rw (long, sym cut, h.rest_is) (drop-drop hour_length end s)
+
+    count_more : length rest / hour_length ≡ suc (length more / hour_length)
+    count_more = rw cut (simp length-append (omega (arith, long)))
+
+    pub goes_on : {b' : Book} → is_accepted_hour b x ≡ true → answer 0 no_lines b' ≡ entered b x → Sound b' → HoursLeft first s b' (end + hour_length) more
+    unfolding hours_of
+    goes_on {b'} taken e sound =
+        let one : hours_of (length rest / hour_length) b s end ≡ hours_of (length more / hour_length) b' s (end + hour_length)
+        = rw (count_more, read_is, taken, sym e) in
+        record { rest_is = rest_more; left = sym one ∙ h.left; sound = sound }
+
+    -- it stops at a record
+    pub stops : is_accepted_hour b x ≡ false → run end b ≡ hours_between first s 0 (length s)
+    unfolding hours_of
+    stops other =
+        let one : hours_of (length rest / hour_length) b s end ≡ run end b = rw (count_more, read_is, other) in
+        sym one ∙ h.left
+
+  -- or where less than one is left
+  pub ends : length rest < hour_length → run end b ≡ hours_between first s 0 (length s)
   unfolding hours_of
-  goes_on {b'} more taken e =
-      let same : end - at - hour_length ≡ end - (at + hour_length) = omega arith in
-      let one : hours_of ((end - at) / hour_length) b s at ≡ hours_of ((end - (at + hour_length)) / hour_length) b' s (at + hour_length)
-      = rw (one_more (end - at) (leb-true hour_length (end - at) more), taken, sym e, same) in
-      sym one ∙ left
-
-  -- it stops at a record, or where less than one is left
-  module _ (to : ℕ) (bound : end ≡ min to (length s)) where
-    pub stops : leb hour_length (end - at) ≡ true → is_accepted_hour b (hour_bytes s at) ≡ false → run at b ≡ hours_between first s from to
-    unfolding hours_of
-    stops more other =
-        let one : hours_of ((end - at) / hour_length) b s at ≡ run at b = rw (one_more (end - at) (leb-true hour_length (end - at) more), other) in
-        rw (sym bound) (sym one ∙ left)
-
-    pub ends : end - at < hour_length → run at b ≡ hours_between first s from to
-    unfolding hours_of
-    ends less =
-        let none : hours_of ((end - at) / hour_length) b s at ≡ run at b = rw (none_more (end - at) less) in
-        rw (sym bound) (sym none ∙ left)
+  ends less =
+      let none : length rest / hour_length ≡ 0 = omega arith in
+      let one : hours_of (length rest / hour_length) b s end ≡ run end b = rw none in
+      sym one ∙ h.left

@@ -28,7 +28,7 @@ use Rattle.rules.proofs.Fields.{numbers_fit_lem, rule_holds}
 use Rattle.rules.proofs.AcceptedRows.{Accepted, accepted}
 use Rattle.book.specs.declared.Unit as unit
 use Rattle.book.specs.declared.Book.{Book}
-use Rattle.book.specs.Books.{no_entry, facts_of_book, empty_book, pair_count, SoundUnit, SoundCommitment, Array, Sound}
+use Rattle.book.specs.Books.{no_entry, facts_of_book, empty_book, no_obligations, no_sums, SoundUnit, SoundCommitment, Array, Sound}
 use Rattle.book.specs.Entered.{new_unit, with_hour, posted_after, after, entered, book_after}
 use Rattle.book.proofs.AreaNets.{days_in_range}
 
@@ -55,6 +55,19 @@ module _ {A : Type 0} {P : A → Type 0} {d : A} where
   array_stored : {n : ℕ} {l : List A} (i : ℕ) (x : A) → P x → Array n P d l → Array n P d (set l i x)
   array_stored {n} {l} i x new old = record { long = length-set l i x ∙ old.long; each = each_stored P d l i x new old.each }
 
+-- the obligations and the posted sums of an area's parties
+abbrev Obligations : List ℕ → Type 0
+Obligations = Array party_count (λ o. o ≤ 100000000) 0
+
+abbrev Sums : List Cents → Type 0
+Sums = Array party_count (λ (c : Cents). nat_abs c.0 ≤ due_most) (cents (pos 0))
+
+no_obligations_sound : Obligations no_obligations
+no_obligations_sound = array_of party_count (omega arith)
+
+no_sums_sound : Sums no_sums
+no_sums_sound = array_of party_count (omega arith)
+
 pub empty_sound : Sound empty_book
 empty_sound =
     record {
@@ -62,8 +75,8 @@ empty_sound =
       areas = array_of area_count (omega arith);
       units = array_of unit_count no_unit_sound;
       commitments = array_of commitment_count no_commitment_sound;
-      obligations = array_of pair_count (omega arith);
-      posted = array_of pair_count (omega arith);
+      obligations = array_of area_count no_obligations_sound;
+      posted = array_of area_count no_sums_sound;
     }
 
 -- a unit in range, without hours
@@ -142,9 +155,6 @@ with_hour_sound y u h s ok not_out later =
           );
     }
 
-abbrev SumFits : Cents → Type 0
-SumFits c = nat_abs c.0 ≤ due_most
-
 -- every due of a book is one that its lines may add up to
 abbrev pub DuesFit : Book → Type 0
 DuesFit b = (a p : ℕ) → p < party_count → nat_abs (due_in (facts_of_book b) a p) ≤ due_most
@@ -155,14 +165,10 @@ module _ (b : Book) (r : Record) (s : Sound b) (dues : DuesFit b) (ok : Accepted
       → SoundUnit (with_hour b.year (get_or b.units (unit_index h.unit) no_entry) h)
   hour_sound h passed = with_hour_sound b.year _ h (s.units.each _) passed.in_range_lem passed.not_out passed.later
 
-  posted_sound : (a : ℕ) → Array pair_count SumFits (cents (pos 0)) (posted_after b a)
+  posted_sound : (a : ℕ) → Array area_count Sums no_sums (posted_after b a)
   unfolding posted_after
   posted_sound a =
-      record { long = length_below pair_count _; each = each_made SumFits (cents (pos 0)) pair_count _ (omega arith) (λ k below. either (eqb (k / party_count) a) k) }
-    where
-      either : (t : Bool) (k : ℕ) → SumFits (cond t (cents (due_in (facts_of_book b) a (k % party_count))) (get_or b.posted k (cents (pos 0))))
-      either true k = dues a (k % party_count) (mod-lt k (omega arith))
-      either false k = s.posted.each k
+      array_stored a _ (record { long = length_below party_count _; each = each_made (λ (c : Cents). nat_abs c.0 ≤ due_most) (cents (pos 0)) party_count _ (omega arith) (dues a) }) s.posted
 
   accepted_sound : Sound (after b r)
   accepted_sound =
@@ -178,9 +184,9 @@ module _ (b : Book) (r : Record) (s : Sound b) (dues : DuesFit b) (ok : Accepted
             chosen (Array commitment_count SoundCommitment no_commitment) (is_of commitment_format r)
             (λ q. array_stored _ _ (commitment_sound b.year _ (as_made (facts_of_book b) r ok commitment_format tt q).in_range_lem) s.commitments) s.commitments;
         obligations =
-            chosen (Array pair_count _ 0) (is_of load_format r)
-            (λ q. array_stored _ _ (within_to _ _ _ (fit ok load_format tt q).1.1.0) s.obligations) s.obligations;
-        posted = chosen (Array pair_count SumFits (cents (pos 0))) (is_of post_format r) (λ q. posted_sound _) s.posted;
+            chosen (Array area_count Obligations no_obligations) (is_of load_format r)
+            (λ q. array_stored _ _ (array_stored _ _ (within_to _ _ _ (fit ok load_format tt q).1.1.0) (s.obligations.each _)) s.obligations) s.obligations;
+        posted = chosen (Array area_count Sums no_sums) (is_of post_format r) (λ q. posted_sound _) s.posted;
       }
 
 -- the book after a record that no row refuses

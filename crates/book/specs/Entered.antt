@@ -1,11 +1,12 @@
 -- What a string is answered with, and the book after it. 01, Records, Places of refusal, Hours and Area money.
-use Rattle.std.specs.Prelude.{cond, List, [], ◌∷◌, ℕ, ◌/◌, ◌%◌, pos, eqb, get_or, set}
+use Rattle.std.specs.Prelude.{cond, List, [], ◌∷◌, ℕ, pos, eqb, get_or, set, Result, Ok, Err}
 use Rattle.numbers.specs.Lists.{list_below}
 use Rattle.money.specs.declared.Cents.{Cents}
 use Rattle.money.specs.Quantities.{cents}
 use Rattle.money.specs.Lines.{line}
 use Rattle.records.specs.declared.format.UnitRecord.{UnitRecord}
 use Rattle.records.specs.declared.format.HourRecord.{HourRecord}
+use Rattle.records.specs.declared.format.LoadRecord.{LoadRecord}
 use Rattle.records.specs.declared.format.Record.{Record}
 use Rattle.records.specs.Format.{party_count}
 use Rattle.records.specs.Decoded.{decoded}
@@ -16,8 +17,7 @@ use Rattle.rules.specs.Dues.{due_in}
 use Rattle.rules.specs.Rules.{area_index, unit_index, number_index, party_index, refusal}
 use Rattle.book.specs.declared.Unit as unit
 use Rattle.book.specs.declared.Book.{Book}
-use Rattle.book.specs.declared.Answer.{Answer}
-use Rattle.book.specs.Books.{facts_of_book, empty_book, Sound, no_entry, pair_count, area_party, posted_in}
+use Rattle.book.specs.Books.{facts_of_book, empty_book, Sound, no_entry, no_obligations, posted_in}
 
 -- a unit as it is entered, without hours
 abbrev pub new_unit : UnitRecord → unit.Unit
@@ -27,10 +27,14 @@ new_unit r = record { entry = r; hours = no_hours; last = 0 }
 abbrev pub with_hour : ℕ → unit.Unit → HourRecord → unit.Unit
 with_hour y u h = record { entry = u.entry; hours = counted y u.hours h; last = hour_index y h }
 
--- posted sums after a post of area a: index k is area k / 16's, party k % 16's, and its lines there now add up to its due
-unfoldable pub posted_after : Book → ℕ → List Cents
-posted_after b a =
-    list_below pair_count (λ k. cond (eqb (k / party_count) a) (cents (due_in (facts_of_book b) a (k % party_count))) (get_or b.posted k (cents (pos 0))))
+-- posted sums after a post of area a: each party's lines there now add up to its due
+unfoldable pub posted_after : Book → ℕ → List (List Cents)
+posted_after b a = set b.posted a (list_below party_count (λ p. cents (due_in (facts_of_book b) a p)))
+
+-- obligations after a Load
+abbrev pub obligations_after : Book → LoadRecord → List (List ℕ)
+obligations_after b l =
+    set b.obligations (area_index l.area) (set (get_or b.obligations (area_index l.area) no_obligations) (party_index l.party) l.obligation)
 
 -- the units after an accepted record: a new one, or one with an hour more
 abbrev pub units_after : Book → Record → List unit.Unit
@@ -47,7 +51,7 @@ after b r = record {
   areas = of_area b.areas (λ a. set b.areas (area_index a.area) a) r;
   units = units_after b r;
   commitments = of_commitment b.commitments (λ c. set b.commitments (number_index c.number) c) r;
-  obligations = of_load b.obligations (λ l. set b.obligations (area_party (area_index l.area) (party_index l.party)) l.obligation) r;
+  obligations = of_load b.obligations (obligations_after b) r;
   posted = of_post b.posted (λ a. posted_after b (area_index a)) r;
 }
 
@@ -63,8 +67,19 @@ post_lines b a = list_below party_count (λ p. cents (line (due_in (facts_of_boo
 abbrev pub lines_of : Book → Record → List Cents
 lines_of b r = of_post no_lines (λ a. post_lines b (area_index a)) r
 
+-- what a record is answered with: the number of its refusal or 0, the sixteen lines, and the book after it
+pub record Answer : Type 0 where
+  pub number : ℕ
+  pub lines : List Cents
+  pub book : Book
+
 abbrev pub answer : ℕ → List Cents → Book → Answer
 answer number lines book = record { number = number; lines = lines; book = book }
+
+-- the answer that a result and the book after it are: lines have the number 0, and a refusal has sixteen zero lines
+abbrev pub answered : Result (List Cents) ℕ → Book → Answer
+answered (Ok lines) book = answer 0 lines book
+answered (Err number) book = answer number no_lines book
 
 -- A string's answer: the number of its refusal with sixteen zero lines and the same book; where no row fits, 0, the lines of
 -- its kind, and the book after it.

@@ -1,0 +1,7 @@
+use Rattle.rules.specs.Hours.{counted}
+use Rattle.book.proofs.Unit.with_hour.Goals as goal
+
+pub returns : goal.returns
+unfolding counted
+returns c =
+    simp (c.hour_index.ensures, c.derated_watts.ensures.0, c.outage_hour.ensures.0, c.service_hour.ensures.0)
