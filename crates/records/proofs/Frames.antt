@@ -1,14 +1,14 @@
 -- What the frame of a string says of its length.
-use Rattle.std.proofs.Common.{◌≡◌, refl, sym, ◌∙◌, Bool, true, false, cond, not, ◌||◌, true≢false, List, ℕ, ◌+◌, arith, eqb, ltb, length, eq-eqb}
+use Rattle.std.proofs.Common.{◌≡◌, refl, sym, ◌∙◌, Bool, true, false, cond, not, ◌||◌, true≢false, List, ℕ, ◌+◌, arith, eqb, ltb, length, eq-eqb, ◌≢◌, Ok, Err}
 use Rattle.std.proofs.Common.{ne_eqb, eqb-true}
 use borrow.Author.Tests.{eqb-false, not-false}
 use Rattle.records.specs.declared.format.HourRecord.{HourRecord}
 use Rattle.records.specs.declared.format.Fault.TheVariants.{Broken, WrongLength}
 use Rattle.records.specs.declared.format.Record.{Record}
-use Rattle.records.specs.declared.format.Record.TheVariants.{Unframed, Hour}
+use Rattle.records.specs.declared.format.Record.TheVariants.{Hour}
 use Rattle.records.specs.Format.{Format, bytes_of, values_of, hour_format}
 use Rattle.records.specs.Decoded.{tag_of, length_of, is_broken, of_length, framed, decoded}
-use Rattle.records.specs.Kinds.{hour_from, of_hour}
+use Rattle.records.specs.Kinds.{Decoded, hour_from, of_hour}
 
 neither : (a b : Bool) → (a || b) ≡ false → (a ≡ false) × (b ≡ false)
 neither true b q = absurd (true≢false q)
@@ -23,23 +23,24 @@ whole s q =
     (neither (ltb 32 (length_of s)) (not (eqb (length s) (3 + length_of s)))
     (neither (ltb (length s) 3) (ltb 32 (length_of s) || not (eqb (length s) (3 + length_of s))) q).1).1)
 
-module _ (f : Format) (s : List ℕ) (framed : is_broken s ≡ false) where
-  pub of_length_lem : {x : Record} (made : List ℕ → Record) → length s ≡ bytes_of f → x ≡ made (values_of f s) → x ≡ of_length f s made
+-- row 3, of a string that row 1 does not fit
+module _ (f : Format) (s : List ℕ) (made : List ℕ → Record) (framed : is_broken s ≡ false) where
+  pub sized : length s ≡ bytes_of f → of_length f s made ≡ Ok (made (values_of f s))
   unfolding of_length
-  of_length_lem made e known = rw (eq-eqb (length_of s) f.size (omega (arith, whole s framed))) known
+  sized e = rw (eq-eqb (length_of s) f.size (omega (arith, whole s framed)))
 
-  pub not_of_length : (made : List ℕ → Record) → (length s ≡ bytes_of f → ⊥) → Unframed WrongLength ≡ of_length f s made
+  pub missized : length s ≢ bytes_of f → of_length f s made ≡ Err WrongLength
   unfolding of_length
-  not_of_length made ne = rw (ne_eqb (length_of s) f.size (omega (arith, whole s framed)))
+  missized ne = rw (ne_eqb (length_of s) f.size (λ e. ne (omega (arith, whole s framed))))
 
 -- An Hour record by its frame: twelve bytes, tag 5, and a stated length of 9.
-pub hour_framed : (s : List ℕ) → length s ≡ 12 → tag_of s ≡ 5 → length_of s ≡ 9 → decoded s ≡ Hour (hour_from (values_of hour_format s))
+pub hour_framed : (s : List ℕ) → length s ≡ 12 → tag_of s ≡ 5 → length_of s ≡ 9 → decoded s ≡ Ok (Hour (hour_from (values_of hour_format s)))
 unfolding decoded is_broken framed of_length
 hour_framed s bytes tag stated = simp (bytes, tag, stated)
 
 -- whatever is made of an Hour record, and `other` of all the rest
 module _ {A : Type 0} (other : A) (given : HourRecord → A) where
-  of_choice : (t : Bool) (a b : Record) → of_hour other given (cond t a b) ≡ cond t (of_hour other given a) (of_hour other given b)
+  of_choice : (t : Bool) (a b : Decoded) → of_hour other given (cond t a b) ≡ cond t (of_hour other given a) (of_hour other given b)
   of_choice true a b = refl
   of_choice false a b = refl
 
@@ -61,7 +62,7 @@ module _ {A : Type 0} (other : A) (given : HourRecord → A) where
     no_hour_lem ne = go (is_broken s) refl (eqb (tag_of s) 5) refl (eqb (length_of s) 9) refl
       where
         go : (b : Bool) → is_broken s ≡ b → (t : Bool) → eqb (tag_of s) 5 ≡ t → (l : Bool) → eqb (length_of s) 9 ≡ l
-            → of_hour other given (cond b (Unframed Broken) (framed s)) ≡ other
+            → of_hour other given (cond b (Err Broken) (framed s)) ≡ other
         go true qb t qt l ql = refl
         go false qb false qt l ql = other_tag qt
         go false qb true qt false ql = other_length qt ql

@@ -1,4 +1,3 @@
 pub mod Frames
-pub mod Numbers
 pub mod FormatLaws
 pub mod OneKind

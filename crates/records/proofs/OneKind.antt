@@ -1,38 +1,38 @@
 -- A record of a known tag is what its numbers make.
-use Rattle.std.proofs.Common.{◌≡◌, refl, ap, ◌∙◌, Bool, true, false, cond, List, [], ◌∷◌, map, not, subst, ℕ, ◌<◌, arith, T, eqb, ltb, eqb-true, ltb-true, ne_eqb}
+use Rattle.std.proofs.Common.{◌≡◌, refl, ap, ◌∙◌, Bool, true, false, cond, List, [], ◌∷◌, map, not, subst, ℕ, ◌+◌, ◌-◌, ◌<◌, Ok, Err, arith, T, eqb, ltb, eqb-true, ltb-true, ne_eqb}
 use mir.Val.{has_key}
 use types.Run.{OneOf, miss}
 use denote.Enum.Declared.{tag_of}
 use Rattle.numbers.specs.Lists.{element}
 use Rattle.records.specs.declared.format.Fault.TheVariants.{Broken}
 use Rattle.records.specs.declared.format.Record.{Record}
-use Rattle.records.specs.declared.format.Record.TheVariants.{Unframed, Year, Area, Unit, Commitment, Hour, Load, Post}
+use Rattle.records.specs.declared.format.Record.TheVariants.{Year, Area, Unit, Commitment, Hour, Load, Post}
 use Rattle.records.specs.Format.{Format, formats}
-use Rattle.records.specs.Kinds.{tag_of_record, numbers_of, area_from, unit_from, commitment_from, hour_from, load_from, is_of}
+use Rattle.records.specs.Kinds.{Decoded, tag_of_record, numbers_of, area_from, unit_from, commitment_from, hour_from, load_from, is_of}
 use Rattle.records.specs.contracts.format.Record.{the_type}
 
-abbrev pub made : ℕ → List ℕ → Record
+abbrev pub made : ℕ → List ℕ → Decoded
 made t l =
-    cond (eqb t 1) (Year (element l 0))
-    (cond (eqb t 2) (Area (area_from l))
-    (cond (eqb t 3) (Unit (unit_from l))
-    (cond (eqb t 4) (Commitment (commitment_from l))
-    (cond (eqb t 5) (Hour (hour_from l))
-    (cond (eqb t 6) (Load (load_from l))
-    (cond (eqb t 7) (Post (element l 0))
-    (Unframed Broken)))))))
+    cond (eqb t 1) (Ok (Year (element l 0)))
+    (cond (eqb t 2) (Ok (Area (area_from l)))
+    (cond (eqb t 3) (Ok (Unit (unit_from l)))
+    (cond (eqb t 4) (Ok (Commitment (commitment_from l)))
+    (cond (eqb t 5) (Ok (Hour (hour_from l)))
+    (cond (eqb t 6) (Ok (Load (load_from l)))
+    (cond (eqb t 7) (Ok (Post (element l 0)))
+    (Err Broken)))))))
 
-rebuilt : (r : Record) → 0 < tag_of_record r → r ≡ made (tag_of_record r) (numbers_of r)
-rebuilt (Unframed f) h = absurd (omega arith)
-rebuilt (Year y) h = refl
-rebuilt (Area a) h = refl
-rebuilt (Unit u) h = refl
-rebuilt (Commitment c) h = refl
-rebuilt (Hour k) h = refl
-rebuilt (Load l) h = refl
-rebuilt (Post p) h = refl
+rebuilt : (r : Decoded) → 0 < tag_of_record r → r ≡ made (tag_of_record r) (numbers_of r)
+rebuilt (Err f) h = absurd (omega arith)
+rebuilt (Ok (Year y)) h = refl
+rebuilt (Ok (Area a)) h = refl
+rebuilt (Ok (Unit u)) h = refl
+rebuilt (Ok (Commitment c)) h = refl
+rebuilt (Ok (Hour k)) h = refl
+rebuilt (Ok (Load l)) h = refl
+rebuilt (Ok (Post p)) h = refl
 
-pub is_made : (f : Format) (r : Record) → T (ltb 0 f.tag) → is_of f r ≡ true → r ≡ made f.tag (numbers_of r)
+pub is_made : (f : Format) (r : Decoded) → T (ltb 0 f.tag) → is_of f r ≡ true → r ≡ made f.tag (numbers_of r)
 is_made f r listed q =
     let e : tag_of_record r ≡ f.tag = eqb-true _ _ q in
     rebuilt r (rw e (ltb-true 0 f.tag (is_true (ltb 0 f.tag) listed))) ∙ ap (λ (t : ℕ). made t (numbers_of r)) e
@@ -42,8 +42,7 @@ is_made f r listed q =
     is_true false h = absurd h
 
 -- a record whose variant is of none of some kinds before it
-tag_is : (r : Record) → tag_of the_type r ≡ tag_of_record r
-tag_is (Unframed f) = refl
+tag_is : (r : Record) → tag_of the_type r + 1 ≡ tag_of_record (Ok r)
 tag_is (Year y) = refl
 tag_is (Area a) = refl
 tag_is (Unit u) = refl
@@ -54,19 +53,21 @@ tag_is (Post p) = refl
 
 -- the variants that are of none of these formats
 abbrev pub others : List Format → List ℕ
-others fs = without (map (λ (f : Format). f.tag) fs) (0 ∷ map (λ (f : Format). f.tag) formats)
+others fs = without (map (λ (f : Format). f.tag - 1) fs) (map (λ (f : Format). f.tag - 1) formats)
   where
     without : List ℕ → List ℕ → List ℕ
     without ks [] = []
     without ks (t ∷ ts) = cond (has_key ks t) (without ks ts) (t ∷ without ks ts)
 
-pub another : (fs : List Format) (r : Record) → OneOf (others fs) (tag_of the_type r) → (f : Format) → T (not (has_key (others fs) f.tag)) → is_of f r ≡ false
-another fs r one f away = ne_eqb (tag_of_record r) f.tag (λ e. miss (others fs) f.tag away (subst (OneOf (others fs)) (tag_is r ∙ e) one))
+pub another : (fs : List Format) (r : Record) → OneOf (others fs) (tag_of the_type r) → (f : Format) → T (not (has_key (others fs) (f.tag - 1)))
+    → is_of f (Ok r) ≡ false
+another fs r one f away =
+    ne_eqb (tag_of_record (Ok r)) f.tag (λ e. miss (others fs) (f.tag - 1) away (subst (OneOf (others fs)) (omega (arith, tag_is r, e)) one))
 
 -- the last arm of a `match`: a record that no numbers of this format make is of another one
-pub of_another : (f : Format) (r : Record) → T (ltb 0 f.tag) → (r ≡ made f.tag (numbers_of r) → ⊥) → is_of f r ≡ false
-of_another f r listed away = go (is_of f r) refl
+pub of_another : (f : Format) (r : Record) → T (ltb 0 f.tag) → (Ok r ≡ made f.tag (numbers_of (Ok r)) → ⊥) → is_of f (Ok r) ≡ false
+of_another f r listed away = go (is_of f (Ok r)) refl
   where
-    go : (t : Bool) → is_of f r ≡ t → is_of f r ≡ false
-    go true q = absurd (away (is_made f r listed q))
+    go : (t : Bool) → is_of f (Ok r) ≡ t → is_of f (Ok r) ≡ false
+    go true q = absurd (away (is_made f (Ok r) listed q))
     go false q = q

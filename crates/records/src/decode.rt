@@ -1,11 +1,14 @@
 // From bytes to a record.
-ghost use Rattle.std.specs.Prelude.{◌≡◌, false, ◌+◌, ◌≤◌, ◌<◌, length};
+#![tactic(auto, using(crate::proofs::Frames::sized, crate::proofs::Frames::missized), unfolding(crate::specs::Format::number_at, crate::specs::Decoded::is_broken, crate::specs::Decoded::framed, crate::specs::Decoded::decoded))]
+
+ghost use Rattle.std.specs.Prelude.{◌≡◌, ◌≢◌, false, ◌+◌, ◌≤◌, ◌<◌, length, MatchResult, Ok};
 ghost use Rattle.numbers.specs.Lists.{element};
+ghost use Rattle.records.specs.declared.format.Fault.TheVariants.{WrongLength};
 ghost use Rattle.records.specs.declared.format.Record.TheVariants.{Year, Area, Unit, Commitment, Hour, Load, Post};
 ghost use Rattle.records.specs.Format.{number_at, bytes_of, values_of, year_format, area_format, unit_format, commitment_format, hour_format, load_format};
 ghost use Rattle.records.specs.Format.{post_format};
 ghost use Rattle.records.specs.Kinds.{area_from, unit_from, commitment_from, hour_from, load_from};
-ghost use Rattle.records.specs.Decoded.{is_broken, of_length, framed, decoded, no_hour, hour_of};
+ghost use Rattle.records.specs.Decoded.{is_broken, of_length, framed, decoded, hour_of};
 
 use crate::format::{
     AREA_BYTES, AreaRecord, COMMITMENT_BYTES, CommitmentRecord, Fault, HOUR_BYTES, HourRecord,
@@ -14,75 +17,77 @@ use crate::format::{
 use capacity::InstalledWatts;
 use capacity::rating::Rating;
 
+// The number in the byte, the two bytes or the four bytes from a place on.
 fn byte(s: &[u8], from: usize) -> u32
     requires { from < length s.now }
     ensures { (result ≡ number_at 1 s.now from) × (result < 256) }
 {
-    s[from] as u32
+    u32::from(s[from])
 }
 
 pub(crate) fn pair(s: &[u8], from: usize) -> u32
     requires { from + 2 ≤ length s.now }
     ensures { (result ≡ number_at 2 s.now from) × (result < 65536) }
 {
-    byte(s, from) * 256 + byte(s, from + 1)
+    u32::from(u16::from_be_bytes([s[from], s[from + 1]]))
 }
 
 fn quad(s: &[u8], from: usize) -> u32
     requires { from + 4 ≤ length s.now }
     ensures { result ≡ number_at 4 s.now from }
 {
-    pair(s, from) * 65536 + pair(s, from + 2)
+    u32::from_be_bytes([s[from], s[from + 1], s[from + 2], s[from + 3]])
 }
 
-const LENGTH_MOST: u32 = 32;
+// A record's tag and length, and the most bytes of its value.
+pub(crate) const HEAD_BYTES: usize = 3;
+
+pub(crate) const LENGTH_MOST: u32 = 32;
 
 // Row 1.
 fn is_broken(s: &[u8]) -> bool
     ensures { result ≡ is_broken s.now }
 {
-    if s.len() < 3 {
-        return true;
+    s.len() < HEAD_BYTES || LENGTH_MOST < pair(s, 1) || s.len() != HEAD_BYTES + pair(s, 1) as usize
+}
+
+// Row 3.
+fn has_length(s: &[u8], bytes: usize) -> Result<(), Fault>
+    ensures { MatchResult result (λ ok. length s.now ≡ bytes) (λ fault. (length s.now ≢ bytes) × (fault ≡ WrongLength)) }
+{
+    if s.len() == bytes {
+        Ok(())
+    } else {
+        Err(Fault::WrongLength)
     }
-    let stated = pair(s, 1);
-    if LENGTH_MOST < stated {
-        return true;
-    }
-    s.len() != 3 + stated as usize
 }
 
 // A framed string of each kind: the record, if the length is that kind's.
-fn year(s: &[u8]) -> Record
+fn year(s: &[u8]) -> Result<Record, Fault>
     requires { is_broken s.now ≡ false }
     ensures { result ≡ of_length year_format s.now (λ l. Year (element l 0)) }
 {
-    if s.len() != YEAR_BYTES {
-        return Record::Unframed(Fault::WrongLength);
-    }
-    Record::Year(pair(s, 3))
+    has_length(s, YEAR_BYTES)?;
+    Ok(Record::Year(pair(s, 3)))
 }
 
-fn area(s: &[u8]) -> Record
+fn area(s: &[u8]) -> Result<Record, Fault>
     requires { is_broken s.now ≡ false }
     ensures { result ≡ of_length area_format s.now (λ l. Area (area_from l)) }
 {
-    if s.len() != AREA_BYTES {
-        return Record::Unframed(Fault::WrongLength);
-    }
-    Record::Area(AreaRecord {
+    has_length(s, AREA_BYTES)?;
+    Ok(Record::Area(AreaRecord {
         area: byte(s, 3),
         price: quad(s, 4),
-    })
+    }))
 }
 
-fn unit(s: &[u8]) -> Record
+fn unit(s: &[u8]) -> Result<Record, Fault>
     requires { is_broken s.now ≡ false }
     ensures { result ≡ of_length unit_format s.now (λ l. Unit (unit_from l)) }
 {
-    if s.len() != UNIT_BYTES {
-        return Record::Unframed(Fault::WrongLength);
-    }
-    Record::Unit(UnitRecord {
+    has_length(s, UNIT_BYTES)?;
+    Ok(Record::Unit(UnitRecord {
         unit: byte(s, 3),
         area: byte(s, 4),
         rating: Rating {
@@ -92,24 +97,22 @@ fn unit(s: &[u8]) -> Record
             efordyear: quad(s, 17),
             class: byte(s, 21),
         },
-    })
+    }))
 }
 
-fn commitment(s: &[u8]) -> Record
+fn commitment(s: &[u8]) -> Result<Record, Fault>
     requires { is_broken s.now ≡ false }
     ensures { result ≡ of_length commitment_format s.now (λ l. Commitment (commitment_from l)) }
 {
-    if s.len() != COMMITMENT_BYTES {
-        return Record::Unframed(Fault::WrongLength);
-    }
-    Record::Commitment(CommitmentRecord {
+    has_length(s, COMMITMENT_BYTES)?;
+    Ok(Record::Commitment(CommitmentRecord {
         number: byte(s, 3),
         unit: byte(s, 4),
         party: byte(s, 5),
         first: pair(s, 6),
         last: pair(s, 8),
         watts: quad(s, 10),
-    })
+    }))
 }
 
 fn hour_fields(s: &[u8]) -> HourRecord
@@ -126,46 +129,39 @@ fn hour_fields(s: &[u8]) -> HourRecord
     }
 }
 
-fn hour(s: &[u8]) -> Record
+fn hour(s: &[u8]) -> Result<Record, Fault>
     requires { is_broken s.now ≡ false }
     ensures { result ≡ of_length hour_format s.now (λ l. Hour (hour_from l)) }
 {
-    if s.len() != HOUR_BYTES {
-        return Record::Unframed(Fault::WrongLength);
-    }
-    Record::Hour(hour_fields(s))
+    has_length(s, HOUR_BYTES)?;
+    Ok(Record::Hour(hour_fields(s)))
 }
 
-fn load(s: &[u8]) -> Record
+fn load(s: &[u8]) -> Result<Record, Fault>
     requires { is_broken s.now ≡ false }
     ensures { result ≡ of_length load_format s.now (λ l. Load (load_from l)) }
 {
-    if s.len() != LOAD_BYTES {
-        return Record::Unframed(Fault::WrongLength);
-    }
-    Record::Load(LoadRecord {
+    has_length(s, LOAD_BYTES)?;
+    Ok(Record::Load(LoadRecord {
         area: byte(s, 3),
         party: byte(s, 4),
         obligation: quad(s, 5),
-    })
+    }))
 }
 
-fn post(s: &[u8]) -> Record
+fn post(s: &[u8]) -> Result<Record, Fault>
     requires { is_broken s.now ≡ false }
     ensures { result ≡ of_length post_format s.now (λ l. Post (element l 0)) }
 {
-    if s.len() != POST_BYTES {
-        return Record::Unframed(Fault::WrongLength);
-    }
-    Record::Post(byte(s, 3))
+    has_length(s, POST_BYTES)?;
+    Ok(Record::Post(byte(s, 3)))
 }
 
-fn framed(s: &[u8]) -> Record
+fn framed(s: &[u8]) -> Result<Record, Fault>
     requires { is_broken s.now ≡ false }
     ensures { result ≡ framed s.now }
 {
-    let tag = byte(s, 0);
-    match tag {
+    match byte(s, 0) {
         1 => year(s),
         2 => area(s),
         3 => unit(s),
@@ -173,16 +169,16 @@ fn framed(s: &[u8]) -> Record
         5 => hour(s),
         6 => load(s),
         7 => post(s),
-        _ => Record::Unframed(Fault::UnknownTag),
+        _ => Err(Fault::UnknownTag),
     }
 }
 
-// The record that a string of bytes is: its fault where the frame refuses it.
-pub fn decode(s: &[u8]) -> Record
+// The record that a string of bytes is, or its fault where the frame refuses it.
+pub fn decode(s: &[u8]) -> Result<Record, Fault>
     ensures { result ≡ decoded s.now }
 {
     if is_broken(s) {
-        return Record::Unframed(Fault::Broken);
+        return Err(Fault::Broken);
     }
     framed(s)
 }
@@ -192,31 +188,13 @@ const HOUR_TAG: u32 = 5;
 
 const HOUR_LENGTH: u32 = 9;
 
-fn no_hour() -> HourRecord
-    ensures { result ≡ no_hour }
-{
-    HourRecord {
-        unit: 0,
-        month: 0,
-        day: 0,
-        hour: 0,
-        kind: 0,
-        derating: 0,
-    }
-}
-
-// The Hour record that a string of bytes is; all zeros where it is none. `decode` alone, without the other kinds.
-pub fn hour_of(s: &[u8]) -> HourRecord
+// The Hour record that a string of bytes is, if it is one. `decode` alone, without the other kinds.
+pub fn hour_of(s: &[u8]) -> Option<HourRecord>
     ensures { result ≡ hour_of s.now }
 {
-    if s.len() != HOUR_BYTES {
-        return no_hour();
+    if s.len() == HOUR_BYTES && byte(s, 0) == HOUR_TAG && pair(s, 1) == HOUR_LENGTH {
+        Some(hour_fields(s))
+    } else {
+        None
     }
-    if byte(s, 0) != HOUR_TAG {
-        return no_hour();
-    }
-    if pair(s, 1) != HOUR_LENGTH {
-        return no_hour();
-    }
-    hour_fields(s)
 }

@@ -69,10 +69,9 @@ pub enum Fault {
     WrongLength,
 }
 
-// A string of bytes, decoded: its fault, or the values of its kind, in range or not.
+// A record: the values of its kind, in range or not.
 #[derive(Clone, Copy)]
 pub enum Record {
-    Unframed(Fault),
     // The year.
     Year(u32),
     Area(AreaRecord),

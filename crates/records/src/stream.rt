@@ -1,8 +1,10 @@
 // The next record of a stream.
+#![tactic(auto, unfolding(crate::specs::Stream::next_record))]
+
 ghost use Rattle.std.specs.Prelude.{◌≡◌, min, length};
 ghost use Rattle.records.specs.Stream.{next_record};
 
-use crate::decode::pair;
+use crate::decode::{HEAD_BYTES, LENGTH_MOST, pair};
 
 #[derive(Clone, Copy)]
 pub enum Next {
@@ -18,26 +20,24 @@ pub enum Next {
 pub fn next_record(s: &[u8]) -> Next
     ensures { result ≡ next_record s.now }
 {
-    if s.len() < 3 {
+    if s.len() < HEAD_BYTES {
         return Next::Partial;
     }
     let stated = pair(s, 1);
-    if 32 < stated {
+    if LENGTH_MOST < stated {
         return Next::Broken;
     }
-    let end = 3 + stated as usize;
+    let end = HEAD_BYTES + stated as usize;
     if s.len() < end {
-        return Next::Partial;
+        Next::Partial
+    } else {
+        Next::Whole(end)
     }
-    Next::Whole(end)
 }
 
 // The index `to`, or the end of s where that comes first.
 pub fn end_of(s: &[u8], to: usize) -> usize
     ensures { result ≡ min to (length s.now) }
 {
-    if to < s.len() {
-        return to;
-    }
-    s.len()
+    to.min(s.len())
 }

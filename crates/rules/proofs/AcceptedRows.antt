@@ -1,11 +1,9 @@
 -- What the rows of refusal say of a record that none of them fits, and of one that the frame refuses.
-use Rattle.std.proofs.Common.{◌≡◌, refl, Bool, true, false, ℕ, suc, arith}
+use Rattle.std.proofs.Common.{◌≡◌, refl, Bool, true, false, ℕ, suc, arith, Err}
 use borrow.Author.Tests.{not-false}
-use Rattle.records.specs.declared.format.Record.{Record}
 use Rattle.records.specs.declared.format.Fault.{Fault}
 use Rattle.records.specs.declared.format.Fault.TheVariants.{Broken, UnknownTag, WrongLength}
-use Rattle.records.specs.declared.format.Record.TheVariants.{Unframed}
-use Rattle.records.specs.Kinds.{fault_number}
+use Rattle.records.specs.Kinds.{Decoded, fault_number}
 use Rattle.rules.specs.declared.refusal.Asked.{Asked}
 use Rattle.rules.specs.Refusal.{row, refusal_of, has_fault, no_year, second_year, out_of_range, in_range, not_entered, second_unit, derated_out, not_later}
 use Rattle.rules.specs.Refusal.{undistributed}
@@ -16,7 +14,7 @@ passed_row n true e = absurd (omega (arith, e))
 passed_row n false e = (refl, e)
 
 -- rows 4 to 11
-pub record Accepted (a : Asked) (r : Record) : Type 0 where
+pub record Accepted (a : Asked) (r : Decoded) : Type 0 where
   pub has_year : no_year a r ≡ false
   pub first_year : second_year a r ≡ false
   pub in_range_lem : in_range a.year r ≡ true
@@ -26,7 +24,7 @@ pub record Accepted (a : Asked) (r : Record) : Type 0 where
   pub later : not_later a r ≡ false
   pub distributed : undistributed a r ≡ false
 
-pub accepted : (a : Asked) (r : Record) → refusal_of a r ≡ 0 → Accepted a r
+pub accepted : (a : Asked) (r : Decoded) → refusal_of a r ≡ 0 → Accepted a r
 unfolding refusal_of
 accepted a r e =
     let row3 = passed_row 2 (has_fault 3 r) (passed_row 1 (has_fault 2 r) (passed_row 0 (has_fault 1 r) e).1).1 in
@@ -49,7 +47,7 @@ accepted a r e =
     }
 
 -- a fault's number is that of its row
-pub fault_row : (a : Asked) (f : Fault) → fault_number f ≡ refusal_of a (Unframed f)
+pub fault_row : (a : Asked) (f : Fault) → fault_number f ≡ refusal_of a (Err f)
 unfolding fault_number refusal_of
 fault_row a Broken = refl
 fault_row a UnknownTag = refl

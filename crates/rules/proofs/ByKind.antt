@@ -1,8 +1,7 @@
 -- A record by its kind: what the rows of refusal say of an accepted one, and choices by whether it is of a format.
 use Rattle.std.proofs.Common.{◌≡◌, refl, sym, subst, Bool, true, false, cond, ℕ, T, ltb}
-use Rattle.records.specs.declared.format.Record.{Record}
 use Rattle.records.specs.Format.{Format}
-use Rattle.records.specs.Kinds.{format_of, numbers_of, is_of}
+use Rattle.records.specs.Kinds.{Decoded, format_of, numbers_of, is_of}
 use Rattle.records.proofs.OneKind.{made, is_made}
 use Rattle.rules.specs.declared.refusal.Asked.{Asked}
 use Rattle.rules.specs.Facts.{Facts}
@@ -35,18 +34,18 @@ by_key_each P true false h k = k
 by_key_each P false key h k = k
 
 -- the rows, of what the numbers of a record of a format make
-pub as_made : (F : Facts) (r : Record) → Accepted (asked F r) r → (f : Format) → T (ltb 0 f.tag) → is_of f r ≡ true
+pub as_made : (F : Facts) (r : Decoded) → Accepted (asked F r) r → (f : Format) → T (ltb 0 f.tag) → is_of f r ≡ true
     → let x = made f.tag (numbers_of r) in Accepted (asked F x) x
-as_made F r ok f listed q = subst (λ (x : Record). Accepted (asked F x) x) (is_made f r listed q) ok
+as_made F r ok f listed q = subst (λ (x : Decoded). Accepted (asked F x) x) (is_made f r listed q) ok
 
 -- its numbers are in range
-pub fit : {a : Asked} {r : Record} → Accepted a r → (f : Format) → T (ltb 0 f.tag) → is_of f r ≡ true
+pub fit : {a : Asked} {r : Decoded} → Accepted a r → (f : Format) → T (ltb 0 f.tag) → is_of f r ≡ true
     → let x = made f.tag (numbers_of r) in EachFits (format_of x).fields (numbers_of x)
 fit {a} {r} ok f listed q =
-    subst (λ (x : Record). EachFits (format_of x).fields (numbers_of x)) (is_made f r listed q) (numbers_fit_lem a.year r ok.in_range_lem)
+    subst (λ (x : Decoded). EachFits (format_of x).fields (numbers_of x)) (is_made f r listed q) (numbers_fit_lem a.year r ok.in_range_lem)
 
 -- a record of a format, and any other
-pub by_kind : (P : Record → Type 0) (r : Record) (f : Format) → T (ltb 0 f.tag) → (is_of f r ≡ true → P (made f.tag (numbers_of r))) → (is_of f r ≡ false → P r) → P r
+pub by_kind : (P : Decoded → Type 0) (r : Decoded) (f : Format) → T (ltb 0 f.tag) → (is_of f r ≡ true → P (made f.tag (numbers_of r))) → (is_of f r ≡ false → P r) → P r
 by_kind P r f listed of other = go (is_of f r) refl
   where
     go : (t : Bool) → is_of f r ≡ t → P r

@@ -3,7 +3,7 @@ use Rattle.std.proofs.Common.{◌≡◌, refl, sym, ◌∙◌, Bool, true, false
 use borrow.Author.Tests.{eqb-false}
 use Rattle.numbers.specs.Range.{within}
 use Rattle.numbers.proofs.Tests.{within_from, within_to}
-use Rattle.records.specs.declared.format.Record.{Record}
+use Rattle.records.specs.Kinds.{Decoded}
 use Rattle.records.specs.Format.{area_count, unit_count}
 use Rattle.rules.specs.Rules.{index, area_named, unit_named}
 
@@ -35,8 +35,8 @@ named_by most n k ok = go (eqb n (k + 1)) refl
 pub named_index : (most n k : ℕ) → within 1 most n ≡ true → eqb n (k + 1) ≡ true → index most n ≡ k
 named_index most n k ok q = sym (eqb-true k (index most n) (named_by most n k ok ∙ q))
 
-pub area_bounded : (r : Record) {n : ℕ} → n ≡ area_named r → (n ≡ area_named r) × (n < area_count)
+pub area_bounded : (r : Decoded) {n : ℕ} → n ≡ area_named r → (n ≡ area_named r) × (n < area_count)
 area_bounded r e = indexed area_count _ (omega arith) e
 
-pub unit_bounded : (r : Record) {n : ℕ} → n ≡ unit_named r → (n ≡ unit_named r) × (n < unit_count)
+pub unit_bounded : (r : Decoded) {n : ℕ} → n ≡ unit_named r → (n ≡ unit_named r) × (n < unit_count)
 unit_bounded r e = indexed unit_count _ (omega arith) e

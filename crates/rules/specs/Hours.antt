@@ -1,8 +1,11 @@
 -- What an Hour record adds to its unit's figures. 01, Hours; 002 (b) and (c).
-use Rattle.std.specs.Prelude.{Bool, cond, ◌&&◌, ℕ, ◌+◌, ◌*◌, eqb, leb}
+use Rattle.std.specs.Prelude.{◌≡◌, Bool, cond, ◌&&◌, ℕ, ◌+◌, ◌*◌, ◌<◌, eqb, leb, Result, MatchResult}
 use Rattle.calendar.specs.DeliveryYear.{delivery_day, is_delivery_peak}
 use Rattle.capacity.specs.declared.rating.HourCounts.{HourCounts}
 use Rattle.records.specs.declared.format.HourRecord.{HourRecord}
+use Rattle.rules.specs.declared.hour.HourKind.{HourKind}
+use Rattle.rules.specs.declared.hour.HourKind.TheVariants.{InService, Derated, DeratingExcused, ForcedOut, OutageExcused, ReserveShutdown}
+use Rattle.rules.specs.declared.hour.NoKind.{NoKind}
 
 -- 01, Hours, kinds that a rule names: in service, forced derating while called upon
 abbrev pub derated : ℕ
@@ -35,6 +38,10 @@ outage_hour y h = cond (is_peak y h && eqb h.kind forced_out) 1 0
 unfoldable pub derated_watts : ℕ → HourRecord → ℕ
 derated_watts y h = cond (is_peak y h && eqb h.kind derated) h.derating 0
 
+-- what an hour adds to SH, to FOH and to D
+abbrev pub hour_counts : ℕ → HourRecord → HourCounts
+hour_counts y h = record { service = service_hour y h; outage = outage_hour y h; derated = derated_watts y h }
+
 -- what a unit's hours come to, with one more
 unfoldable pub counted : ℕ → HourCounts → HourRecord → HourCounts
 counted y c h = record {
@@ -42,3 +49,16 @@ counted y c h = record {
   outage = c.outage + outage_hour y h;
   derated = c.derated + derated_watts y h;
 }
+
+-- the number of a kind
+abbrev pub kind_number : HourKind → ℕ
+kind_number InService = 0
+kind_number Derated = derated
+kind_number DeratingExcused = excused
+kind_number ForcedOut = forced_out
+kind_number OutageExcused = 4
+kind_number ReserveShutdown = 5
+
+-- the kind that has a number; none has one above 5
+abbrev pub IsKind : ℕ → Result HourKind NoKind → Type 0
+IsKind n r = MatchResult r (λ k. kind_number k ≡ n) (λ e. (e.0 ≡ n) × (5 < n))

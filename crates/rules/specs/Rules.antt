@@ -3,7 +3,7 @@ use Rattle.std.specs.Prelude.{Bool, false, cond, List, ℕ, ◌-◌}
 use Rattle.numbers.specs.Range.{within}
 use Rattle.records.specs.declared.format.AreaRecord.{AreaRecord}
 use Rattle.records.specs.declared.format.UnitRecord.{UnitRecord}
-use Rattle.records.specs.declared.format.Record.{Record}
+use Rattle.records.specs.Kinds.{Decoded}
 use Rattle.records.specs.Decoded.{decoded}
 use Rattle.records.specs.Format.{area_count, unit_count, commitment_count, party_count}
 use Rattle.records.specs.Kinds.{of_area, of_unit, of_commitment, of_hour, of_load, of_post}
@@ -30,16 +30,16 @@ abbrev pub party_index : ℕ → ℕ
 party_index n = index party_count n
 
 -- the index of the area that a record names; for a record that names none, 0, and no row asks
-abbrev pub area_named : Record → ℕ
+abbrev pub area_named : Decoded → ℕ
 area_named r =
     area_index (of_area (of_unit (of_load (of_post 0 (λ a. a) r) (λ l. l.area) r) (λ u. u.area) r) (λ a. a.area) r)
 
 -- and of the unit
-abbrev pub unit_named : Record → ℕ
+abbrev pub unit_named : Decoded → ℕ
 unit_named r = unit_index (of_unit (of_commitment (of_hour 0 (λ h. h.unit) r) (λ c. c.unit) r) (λ u. u.unit) r)
 
 -- row 11 is asked of a Post
-abbrev pub post_undistributed : Facts → Record → Bool
+abbrev pub post_undistributed : Facts → Decoded → Bool
 post_undistributed F r = of_post false (λ a. undistributed_in F (area_index a)) r
 
 -- what the rows ask, of the area and the unit that a record names, the unit's last hour, and row 11
@@ -53,7 +53,7 @@ asked_of year area unit last undistributed = record {
   undistributed = undistributed;
 }
 
-abbrev pub asked : Facts → Record → Asked
+abbrev pub asked : Facts → Decoded → Asked
 asked F r = asked_of F.year (F.area (area_named r)) (F.unit (unit_named r)) (F.last (unit_named r)) (post_undistributed F r)
 
 -- the number of a string: that of the first row that fits, 0 where none does

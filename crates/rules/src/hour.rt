@@ -1,15 +1,62 @@
 // An Hour record in its delivery year.
-ghost use Rattle.std.specs.Prelude.{◌≡◌, ◌≤◌, ◌<◌, ◌^◌};
-ghost use Rattle.rules.specs.Hours.{hour_index, is_peak, service_hour, outage_hour, derated_watts};
+#![tactic(auto, unfolding(crate::specs::Hours::hour_index, crate::specs::Hours::is_peak, crate::specs::Hours::service_hour, crate::specs::Hours::outage_hour, crate::specs::Hours::derated_watts))]
+
+ghost use Rattle.std.specs.Prelude.{◌≡◌, ◌+◌, ◌≤◌, ◌<◌, ◌^◌, eqb};
+ghost use Rattle.rules.specs.Hours.{derated, hour_index, is_peak, hour_counts, IsKind};
 
 use calendar::delivery_year::{delivery_day, is_delivery_peak};
+use capacity::rating::HourCounts;
 use records::format::HourRecord;
+
+// The kinds of hour, in the order of their numbers from 0.
+#[derive(Clone, Copy)]
+pub enum HourKind {
+    InService,
+    // In service, with a forced derating while called upon.
+    Derated,
+    // In service, with a derating excused.
+    DeratingExcused,
+    // In full forced outage while called upon.
+    ForcedOut,
+    // In an outage excused, or not called upon.
+    OutageExcused,
+    ReserveShutdown,
+}
+
+// A number that is of no kind of hour.
+#[derive(Clone, Copy)]
+pub struct NoKind(pub u32);
+
+impl TryFrom<u32> for HourKind {
+    type Error = NoKind;
+
+    ghost try_from_gives = { IsKind };
+
+    fn try_from(number: u32) -> Result<Self, NoKind> {
+        match number {
+            0 => Ok(HourKind::InService),
+            1 => Ok(HourKind::Derated),
+            2 => Ok(HourKind::DeratingExcused),
+            3 => Ok(HourKind::ForcedOut),
+            4 => Ok(HourKind::OutageExcused),
+            5 => Ok(HourKind::ReserveShutdown),
+            _ => Err(NoKind(number)),
+        }
+    }
+}
+
+// Whether its kind is a forced derating while called upon.
+pub(crate) fn is_derated(h: HourRecord) -> bool
+    ensures { result ≡ eqb h.kind derated }
+{
+    matches!(HourKind::try_from(h.kind), Ok(HourKind::Derated))
+}
 
 // Its index in delivery year y, by day and then hour ending.
 pub fn hour_index(year: u32, h: HourRecord) -> u64
     ensures { result ≡ hour_index year h }
 {
-    delivery_day(year, h.month, h.day) as u64 * 24 + h.hour as u64
+    u64::from(delivery_day(year, h.month, h.day)) * 24 + u64::from(h.hour)
 }
 
 fn is_peak(year: u32, h: HourRecord) -> bool
@@ -18,50 +65,37 @@ fn is_peak(year: u32, h: HourRecord) -> bool
     is_delivery_peak(year, h.month, h.day, h.hour)
 }
 
-// Kinds of hour that a rule names: in service with a forced derating while called upon, in service with a derating excused,
-// and full forced outage while called upon. Those up to EXCUSED are in service.
-pub(crate) const DERATED: u32 = 1;
-
-const EXCUSED: u32 = 2;
-
-const FORCED_OUT: u32 = 3;
-
 // An hour, as SH and FOH count it.
 const HOUR: u64 = 1;
 
 // What an hour adds to SH, to FOH and to D.
-pub fn service_hour(year: u32, h: HourRecord) -> u64
-    ensures { (result ≡ service_hour year h) × (result ≤ 1) }
+pub fn hour_counts(year: u32, h: HourRecord) -> HourCounts
+    ensures value { result ≡ hour_counts year h }
+    ensures hours_most { result.service + result.outage ≤ 1 }
+    ensures derated_most { result.derated < 2 ^ 32 }
 {
+    let nothing = HourCounts {
+        service: 0,
+        outage: 0,
+        derated: 0,
+    };
     if !is_peak(year, h) {
-        return 0;
+        return nothing;
     }
-    if h.kind <= EXCUSED {
-        return HOUR;
+    match HourKind::try_from(h.kind) {
+        Ok(HourKind::InService | HourKind::DeratingExcused) => HourCounts {
+            service: HOUR,
+            ..nothing
+        },
+        Ok(HourKind::Derated) => HourCounts {
+            service: HOUR,
+            derated: u64::from(h.derating),
+            ..nothing
+        },
+        Ok(HourKind::ForcedOut) => HourCounts {
+            outage: HOUR,
+            ..nothing
+        },
+        _ => nothing,
     }
-    0
-}
-
-pub fn outage_hour(year: u32, h: HourRecord) -> u64
-    ensures { (result ≡ outage_hour year h) × (result ≤ 1) }
-{
-    if !is_peak(year, h) {
-        return 0;
-    }
-    if h.kind == FORCED_OUT {
-        return HOUR;
-    }
-    0
-}
-
-pub fn derated_watts(year: u32, h: HourRecord) -> u64
-    ensures { (result ≡ derated_watts year h) × (result < 2 ^ 32) }
-{
-    if !is_peak(year, h) {
-        return 0;
-    }
-    if h.kind == DERATED {
-        return h.derating as u64;
-    }
-    0
 }

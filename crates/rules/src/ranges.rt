@@ -1,13 +1,15 @@
 // Row 6: every number of a record in its field's range, and the record's own rule.
-ghost use Rattle.std.specs.Prelude.{◌≡◌, drop};
+#![tactic(auto, unfolding(crate::specs::Refusal::numbers_fit, crate::specs::Refusal::in_range, crate::specs::Refusal::days_fit, crate::specs::Refusal::hour_fits, crate::specs::Refusal::derating_fits))]
+
+ghost use Rattle.std.specs.Prelude.{◌≡◌, drop, Ok};
 ghost use Rattle.numbers.specs.Range.{within};
 ghost use Rattle.capacity.specs.Shortfall.{installed_most};
 ghost use Rattle.records.specs.declared.format.Record.TheVariants.{Year, Area, Unit, Commitment, Hour, Load, Post};
-ghost use Rattle.records.specs.Format.{area_at, unit_at, party_at, rate_at, unit_format, fields_fit};
+ghost use Rattle.records.specs.Format.{rate_at, unit_format, fields_fit};
 ghost use Rattle.records.specs.Kinds.{rating_numbers};
 ghost use Rattle.rules.specs.Refusal.{numbers_fit, derating_fits, in_range};
 
-use crate::hour::DERATED;
+use crate::hour::is_derated;
 use crate::indices::{AREAS, COMMITMENTS, PARTIES, UNITS};
 use calendar::delivery_year::{delivery_days, is_delivery_date};
 use capacity::InstalledWatts;
@@ -15,22 +17,11 @@ use capacity::rating::Rating;
 use numbers::range::within;
 use records::format::{AreaRecord, CommitmentRecord, HourRecord, LoadRecord, UnitRecord};
 
-fn is_area(n: u32) -> bool
-    ensures { result ≡ (area_at 0).holds n }
+// A number of 1 to MOST.
+fn is_one_of<const MOST: usize>(n: u32) -> bool
+    ensures { result ≡ within 1 MOST n }
 {
-    within(1, AREAS, n as u64)
-}
-
-fn is_unit(n: u32) -> bool
-    ensures { result ≡ (unit_at 0).holds n }
-{
-    within(1, UNITS, n as u64)
-}
-
-fn is_party(n: u32) -> bool
-    ensures { result ≡ (party_at 0).holds n }
-{
-    within(1, PARTIES, n as u64)
+    within(1, MOST as u64, u64::from(n))
 }
 
 fn is_capacity(i: InstalledWatts) -> bool
@@ -42,118 +33,80 @@ fn is_capacity(i: InstalledWatts) -> bool
 fn is_rate(n: u32) -> bool
     ensures { result ≡ (rate_at 0).holds n }
 {
-    within(0, 99_999, n as u64)
+    within(0, 99_999, u64::from(n))
 }
 
 // The numbers of a Unit after its area.
 fn rating_fits(r: Rating) -> bool
     ensures { result ≡ fields_fit (drop 2 unit_format.fields) (rating_numbers r) }
 {
-    if !is_capacity(r.installed) {
-        return false;
-    }
-    if !is_rate(r.eford) {
-        return false;
-    }
-    if !is_rate(r.eford5) {
-        return false;
-    }
-    if !is_rate(r.efordyear) {
-        return false;
-    }
-    within(0, 2, r.class as u64)
+    is_capacity(r.installed)
+        && is_rate(r.eford)
+        && is_rate(r.eford5)
+        && is_rate(r.efordyear)
+        && within(0, 2, u64::from(r.class))
 }
 
 pub(crate) fn year_fits(y: u32) -> bool
-    ensures { result ≡ numbers_fit (Year y) }
+    ensures { result ≡ numbers_fit (Ok (Year y)) }
 {
-    within(2007, 2099, y as u64)
+    within(2007, 2099, u64::from(y))
 }
 
 pub(crate) fn area_fits(a: AreaRecord) -> bool
-    ensures { result ≡ numbers_fit (Area a) }
+    ensures { result ≡ numbers_fit (Ok (Area a)) }
 {
-    if !is_area(a.area) {
-        return false;
-    }
-    within(0, 50_000, a.price as u64)
+    is_one_of::<AREAS>(a.area) && within(0, 50_000, u64::from(a.price))
 }
 
 pub(crate) fn unit_fits(u: UnitRecord) -> bool
-    ensures { result ≡ numbers_fit (Unit u) }
+    ensures { result ≡ numbers_fit (Ok (Unit u)) }
 {
-    if !is_unit(u.unit) {
-        return false;
-    }
-    if !is_area(u.area) {
-        return false;
-    }
-    rating_fits(u.rating)
+    is_one_of::<UNITS>(u.unit) && is_one_of::<AREAS>(u.area) && rating_fits(u.rating)
 }
 
 pub(crate) fn commitment_fits(year: u32, c: CommitmentRecord) -> bool
-    ensures { result ≡ in_range year (Commitment c) }
+    ensures { result ≡ in_range year (Ok (Commitment c)) }
 {
-    if !within(1, COMMITMENTS, c.number as u64) {
-        return false;
-    }
-    if !is_unit(c.unit) {
-        return false;
-    }
-    if !is_party(c.party) {
-        return false;
-    }
-    if !within(0, 5_000_000, c.watts as u64) {
-        return false;
-    }
-    if c.last < c.first {
-        return false;
-    }
-    c.last < delivery_days(year)
+    is_one_of::<COMMITMENTS>(c.number)
+        && is_one_of::<UNITS>(c.unit)
+        && is_one_of::<PARTIES>(c.party)
+        && within(0, 5_000_000, u64::from(c.watts))
+        && c.first <= c.last
+        && c.last < delivery_days(year)
 }
 
 // At least 1 for a forced derating, and 0 for other kinds.
 fn derating_fits(h: HourRecord) -> bool
     ensures { result ≡ derating_fits h }
 {
-    if h.kind == DERATED {
-        return 1 <= h.derating;
+    if is_derated(h) {
+        1 <= h.derating
+    } else {
+        h.derating == 0
     }
-    h.derating == 0
 }
 
 pub(crate) fn hour_fits(year: u32, h: HourRecord) -> bool
-    ensures { result ≡ in_range year (Hour h) }
+    ensures { result ≡ in_range year (Ok (Hour h)) }
 {
-    if !is_unit(h.unit) {
-        return false;
-    }
-    if !within(1, 24, h.hour as u64) {
-        return false;
-    }
-    if !within(0, 5, h.kind as u64) {
-        return false;
-    }
-    if !is_delivery_date(year, h.month, h.day) {
-        return false;
-    }
-    derating_fits(h)
+    is_one_of::<UNITS>(h.unit)
+        && within(1, 24, u64::from(h.hour))
+        && within(0, 5, u64::from(h.kind))
+        && is_delivery_date(year, h.month, h.day)
+        && derating_fits(h)
 }
 
 pub(crate) fn load_fits(l: LoadRecord) -> bool
-    ensures { result ≡ numbers_fit (Load l) }
+    ensures { result ≡ numbers_fit (Ok (Load l)) }
 {
-    if !is_area(l.area) {
-        return false;
-    }
-    if !is_party(l.party) {
-        return false;
-    }
-    within(0, 100_000_000, l.obligation as u64)
+    is_one_of::<AREAS>(l.area)
+        && is_one_of::<PARTIES>(l.party)
+        && within(0, 100_000_000, u64::from(l.obligation))
 }
 
 pub(crate) fn post_fits(area: u32) -> bool
-    ensures { result ≡ numbers_fit (Post area) }
+    ensures { result ≡ numbers_fit (Ok (Post area)) }
 {
-    is_area(area)
+    is_one_of::<AREAS>(area)
 }

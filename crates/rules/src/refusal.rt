@@ -1,12 +1,13 @@
 // The rows of refusal, over what they ask beyond the record.
-ghost use Rattle.std.specs.Prelude.{◌≡◌, false, ◌&&◌, eqb, leb};
+#![tactic(auto, unfolding(crate::specs::Refusal::refusal_of, crate::specs::Refusal::in_range, crate::specs::Hours::hour_index, records::specs::Kinds::fault_number))]
+
+ghost use Rattle.std.specs.Prelude.{◌≡◌, false, ◌&&◌, eqb, leb, Ok, Err};
 ghost use Rattle.records.specs.declared.format.Record.TheVariants.{Year, Area, Unit, Commitment, Hour, Load, Post};
-ghost use Rattle.records.specs.Kinds.{fault_number};
 ghost use Rattle.rules.specs.Hours.{derated};
-ghost use Rattle.rules.specs.Refusal.{refusal_of};
+ghost use Rattle.rules.specs.Refusal.{refusal_of, row_number, number_of, IsRow};
 ghost use Rattle.rules.specs.Rules.{asked_of};
 
-use crate::hour::{DERATED, hour_index};
+use crate::hour::{hour_index, is_derated};
 use crate::ranges::{
     area_fits, commitment_fits, hour_fits, load_fits, post_fits, unit_fits, year_fits,
 };
@@ -14,6 +15,30 @@ use capacity::InstalledWatts;
 use records::format::{
     AreaRecord, CommitmentRecord, Fault, HourRecord, LoadRecord, Record, UnitRecord,
 };
+
+// Why a record is refused: the rows, in the order of their numbers from 1.
+#[derive(Clone, Copy)]
+pub enum Refusal {
+    Broken,
+    UnknownTag,
+    WrongLength,
+    NoYear,
+    SecondYear,
+    OutOfRange,
+    NotEntered,
+    SecondUnit,
+    DeratedOut,
+    NotLater,
+    Undistributed,
+}
+
+impl Refusal {
+    pub fn number(self) -> u32
+        ensures { result ≡ row_number self }
+    {
+        self as u32 + 1
+    }
+}
 
 // What the rows ask, of the area and the unit that a record names.
 #[derive(Clone, Copy)]
@@ -31,166 +56,165 @@ pub struct Asked {
     pub undistributed: bool,
 }
 
-// What rows 1 to 10 ask, of the area and the unit that a record names, and of the unit's last hour.
-pub fn asked_of(year: u32, area: AreaRecord, unit: UnitRecord, last: u64) -> Asked
-    ensures { result ≡ asked_of year area unit last false }
-{
-    let rating = unit.rating;
-    let installed = rating.installed;
-    Asked {
-        year,
-        area: 0 < area.area,
-        unit: 0 < unit.unit,
-        installed,
-        last,
-        undistributed: false,
-    }
-}
+// Rows 1 to 3.
+impl From<Fault> for Refusal {
+    ghost from_gives = { IsRow };
 
-fn fault(f: Fault) -> u32
-    ensures { result ≡ fault_number f }
-{
-    match f {
-        Fault::Broken => 1,
-        Fault::UnknownTag => 2,
-        Fault::WrongLength => 3,
+    fn from(fault: Fault) -> Self {
+        match fault {
+            Fault::Broken => Refusal::Broken,
+            Fault::UnknownTag => Refusal::UnknownTag,
+            Fault::WrongLength => Refusal::WrongLength,
+        }
     }
-}
-
-fn year(a: Asked, y: u32) -> u32
-    ensures { result ≡ refusal_of a (Year y) }
-{
-    if a.year != 0 {
-        return 5;
-    }
-    if !year_fits(y) {
-        return 6;
-    }
-    0
-}
-
-fn area(a: Asked, r: AreaRecord) -> u32
-    ensures { result ≡ refusal_of a (Area r) }
-{
-    if a.year == 0 {
-        return 4;
-    }
-    if !area_fits(r) {
-        return 6;
-    }
-    0
-}
-
-fn unit(a: Asked, r: UnitRecord) -> u32
-    ensures { result ≡ refusal_of a (Unit r) }
-{
-    if a.year == 0 {
-        return 4;
-    }
-    if !unit_fits(r) {
-        return 6;
-    }
-    if !a.area {
-        return 7;
-    }
-    if a.unit {
-        return 8;
-    }
-    0
-}
-
-fn commitment(a: Asked, r: CommitmentRecord) -> u32
-    ensures { result ≡ refusal_of a (Commitment r) }
-{
-    if a.year == 0 {
-        return 4;
-    }
-    if !commitment_fits(a.year, r) {
-        return 6;
-    }
-    if !a.unit {
-        return 7;
-    }
-    0
 }
 
 // Row 9.
 fn derated_out(i: InstalledWatts, r: HourRecord) -> bool
     ensures { result ≡ (eqb r.kind derated && leb i.0 r.derating) }
 {
-    if r.kind != DERATED {
-        return false;
-    }
-    i.watts() <= r.derating as u64
+    is_derated(r) && i.watts() <= u64::from(r.derating)
 }
 
-// The rows of an Hour alone.
-pub fn hour(a: Asked, r: HourRecord) -> u32
-    ensures { result ≡ refusal_of a (Hour r) }
-{
-    if a.year == 0 {
-        return 4;
+impl Asked {
+    // What rows 1 to 10 ask, of the area and the unit that a record names, and of the unit's last hour.
+    pub fn new(year: u32, area: AreaRecord, unit: UnitRecord, last: u64) -> Self
+        ensures { result ≡ asked_of year area unit last false }
+    {
+        Self {
+            year,
+            area: 0 < area.area,
+            unit: 0 < unit.unit,
+            installed: unit.rating.installed,
+            last,
+            undistributed: false,
+        }
     }
-    if !hour_fits(a.year, r) {
-        return 6;
-    }
-    if !a.unit {
-        return 7;
-    }
-    if derated_out(a.installed, r) {
-        return 9;
-    }
-    if hour_index(a.year, r) <= a.last {
-        return 10;
-    }
-    0
-}
 
-fn load(a: Asked, r: LoadRecord) -> u32
-    ensures { result ≡ refusal_of a (Load r) }
-{
-    if a.year == 0 {
-        return 4;
+    fn admit_year(self, y: u32) -> Result<(), Refusal>
+        ensures { number_of result ≡ refusal_of self (Ok (Year y)) }
+    {
+        if self.year != 0 {
+            return Err(Refusal::SecondYear);
+        }
+        if !year_fits(y) {
+            return Err(Refusal::OutOfRange);
+        }
+        Ok(())
     }
-    if !load_fits(r) {
-        return 6;
-    }
-    if !a.area {
-        return 7;
-    }
-    0
-}
 
-fn post(a: Asked, r: u32) -> u32
-    ensures { result ≡ refusal_of a (Post r) }
-{
-    if a.year == 0 {
-        return 4;
+    fn admit_area(self, r: AreaRecord) -> Result<(), Refusal>
+        ensures { number_of result ≡ refusal_of self (Ok (Area r)) }
+    {
+        if self.year == 0 {
+            return Err(Refusal::NoYear);
+        }
+        if !area_fits(r) {
+            return Err(Refusal::OutOfRange);
+        }
+        Ok(())
     }
-    if !post_fits(r) {
-        return 6;
-    }
-    if !a.area {
-        return 7;
-    }
-    if a.undistributed {
-        return 11;
-    }
-    0
-}
 
-// The number of the first row that fits; 0 where none does.
-pub fn refusal(a: Asked, r: Record) -> u32
-    ensures { result ≡ refusal_of a r }
-{
-    match r {
-        Record::Unframed(f) => fault(f),
-        Record::Year(y) => year(a, y),
-        Record::Area(x) => area(a, x),
-        Record::Unit(x) => unit(a, x),
-        Record::Commitment(x) => commitment(a, x),
-        Record::Hour(x) => hour(a, x),
-        Record::Load(x) => load(a, x),
-        Record::Post(x) => post(a, x),
+    fn admit_unit(self, r: UnitRecord) -> Result<(), Refusal>
+        ensures { number_of result ≡ refusal_of self (Ok (Unit r)) }
+    {
+        if self.year == 0 {
+            return Err(Refusal::NoYear);
+        }
+        if !unit_fits(r) {
+            return Err(Refusal::OutOfRange);
+        }
+        if !self.area {
+            return Err(Refusal::NotEntered);
+        }
+        if self.unit {
+            return Err(Refusal::SecondUnit);
+        }
+        Ok(())
+    }
+
+    fn admit_commitment(self, r: CommitmentRecord) -> Result<(), Refusal>
+        ensures { number_of result ≡ refusal_of self (Ok (Commitment r)) }
+    {
+        if self.year == 0 {
+            return Err(Refusal::NoYear);
+        }
+        if !commitment_fits(self.year, r) {
+            return Err(Refusal::OutOfRange);
+        }
+        if !self.unit {
+            return Err(Refusal::NotEntered);
+        }
+        Ok(())
+    }
+
+    // The rows of an Hour alone.
+    pub fn admit_hour(self, r: HourRecord) -> Result<(), Refusal>
+        ensures { number_of result ≡ refusal_of self (Ok (Hour r)) }
+    {
+        if self.year == 0 {
+            return Err(Refusal::NoYear);
+        }
+        if !hour_fits(self.year, r) {
+            return Err(Refusal::OutOfRange);
+        }
+        if !self.unit {
+            return Err(Refusal::NotEntered);
+        }
+        if derated_out(self.installed, r) {
+            return Err(Refusal::DeratedOut);
+        }
+        if hour_index(self.year, r) <= self.last {
+            return Err(Refusal::NotLater);
+        }
+        Ok(())
+    }
+
+    fn admit_load(self, r: LoadRecord) -> Result<(), Refusal>
+        ensures { number_of result ≡ refusal_of self (Ok (Load r)) }
+    {
+        if self.year == 0 {
+            return Err(Refusal::NoYear);
+        }
+        if !load_fits(r) {
+            return Err(Refusal::OutOfRange);
+        }
+        if !self.area {
+            return Err(Refusal::NotEntered);
+        }
+        Ok(())
+    }
+
+    fn admit_post(self, r: u32) -> Result<(), Refusal>
+        ensures { number_of result ≡ refusal_of self (Ok (Post r)) }
+    {
+        if self.year == 0 {
+            return Err(Refusal::NoYear);
+        }
+        if !post_fits(r) {
+            return Err(Refusal::OutOfRange);
+        }
+        if !self.area {
+            return Err(Refusal::NotEntered);
+        }
+        if self.undistributed {
+            return Err(Refusal::Undistributed);
+        }
+        Ok(())
+    }
+
+    // The first row that fits a record that the frame takes: one of 4 to 11, if any does.
+    pub fn admit(self, r: Record) -> Result<(), Refusal>
+        ensures { number_of result ≡ refusal_of self (Ok r) }
+    {
+        match r {
+            Record::Year(y) => self.admit_year(y),
+            Record::Area(x) => self.admit_area(x),
+            Record::Unit(x) => self.admit_unit(x),
+            Record::Commitment(x) => self.admit_commitment(x),
+            Record::Hour(x) => self.admit_hour(x),
+            Record::Load(x) => self.admit_load(x),
+            Record::Post(x) => self.admit_post(x),
+        }
     }
 }
