@@ -1,6 +1,6 @@
 -- Every book that strings lead to is sound: the empty book is, and an answer's book is if the book before it was.
 use Rattle.std.proofs.Common.{◌≡◌, refl, ◌∙◌, Bool, true, false, cond, ◌&&◌, List, [], ◌∷◌, inl, inr, ℕ, ◌+◌, ◌*◌, ◌/◌, ◌%◌, ◌≤◌, ◌<◌, add-mul}
-use Rattle.std.proofs.Common.{mod-lt, arith, pos, nat_abs, eqb, leb, get_or, set, length-set, ltb-true, leb-true, leb-false, eqb-true}
+use Rattle.std.proofs.Common.{Ok, arith, pos, nat_abs, eqb, leb, get_or, set, length-set, ltb-true, leb-true, leb-false, eqb-true}
 use Rattle.numbers.specs.Lists.{list_below}
 use Rattle.numbers.proofs.Tests.{within_from, within_to, both_true}
 use Rattle.numbers.proofs.Lists.{length_below, each_made, each_stored}
@@ -12,12 +12,11 @@ use Rattle.money.specs.AreaMoney.{due_most}
 use Rattle.records.specs.declared.format.UnitRecord.{UnitRecord}
 use Rattle.records.specs.declared.format.CommitmentRecord.{CommitmentRecord}
 use Rattle.records.specs.declared.format.HourRecord.{HourRecord}
-use Rattle.records.specs.declared.format.Record.{Record}
 use Rattle.records.specs.declared.format.Record.TheVariants.{Unit, Commitment, Hour}
 use Rattle.records.specs.Format.{area_count, unit_count, commitment_count, party_count, year_format, area_format, unit_format, commitment_format, hour_format}
 use Rattle.records.specs.Format.{load_format, post_format}
 use Rattle.records.specs.Decoded.{decoded}
-use Rattle.records.specs.Kinds.{is_of}
+use Rattle.records.specs.Kinds.{Decoded, is_of}
 use Rattle.rules.specs.Facts.{no_area, no_commitment}
 use Rattle.rules.specs.Hours.{derated, excused, forced_out, hour_index, service_hour, outage_hour, derated_watts, counted, is_peak}
 use Rattle.rules.specs.Refusal.{days_fit, in_range, refusal_of}
@@ -80,9 +79,9 @@ empty_sound =
     }
 
 -- a unit in range, without hours
-new_unit_sound : (y : ℕ) (r : UnitRecord) → in_range y (Unit r) ≡ true → SoundUnit (new_unit r)
+new_unit_sound : (y : ℕ) (r : UnitRecord) → in_range y (Ok (Unit r)) ≡ true → SoundUnit (new_unit r)
 new_unit_sound y r ok =
-    let installed = (numbers_fit_lem y (Unit r) ok).1.1 in
+    let installed = (numbers_fit_lem y (Ok (Unit r)) ok).1.1 in
     record {
       rating =
           record {
@@ -101,15 +100,15 @@ new_unit_sound y r ok =
 days_most : (y : ℕ) → delivery_days y ≤ 366
 days_most y = within_to 365 366 (delivery_days y) (days_in_range y)
 
-commitment_sound : (y : ℕ) (c : CommitmentRecord) → in_range y (Commitment c) ≡ true → SoundCommitment c
+commitment_sound : (y : ℕ) (c : CommitmentRecord) → in_range y (Ok (Commitment c)) ≡ true → SoundCommitment c
 unfolding days_fit
 commitment_sound y c ok =
-    let days = both_true {a = leb c.first c.last} (rule_holds y (Commitment c) ok) in
+    let days = both_true {a = leb c.first c.last} (rule_holds y (Ok (Commitment c)) ok) in
     record {
-      party = inr (numbers_fit_lem y (Commitment c) ok).1.1.0;
+      party = inr (numbers_fit_lem y (Ok (Commitment c)) ok).1.1.0;
       in_order = leb-true c.first c.last days.0;
       last_most = omega (arith, ltb-true c.last (delivery_days y) days.1, days_most y);
-      watts_most = within_to _ _ _ (numbers_fit_lem y (Commitment c) ok).1.1.1.1.1.0;
+      watts_most = within_to _ _ _ (numbers_fit_lem y (Ok (Commitment c)) ok).1.1.1.1.1.0;
     }
 
 -- no kind is in service and in outage
@@ -134,13 +133,13 @@ derated_in_service true kind derating installed e = go (eqb kind derated) refl e
     go false q e = omega arith
 
 -- a unit with an accepted hour more
-with_hour_sound : (y : ℕ) (u : unit.Unit) (h : HourRecord) → SoundUnit u → in_range y (Hour h) ≡ true
+with_hour_sound : (y : ℕ) (u : unit.Unit) (h : HourRecord) → SoundUnit u → in_range y (Ok (Hour h)) ≡ true
     → (eqb h.kind derated && leb u.entry.rating.installed.0 h.derating) ≡ false → leb (hour_index y h) u.last ≡ false → SoundUnit (with_hour y u h)
 unfolding hour_index counted service_hour outage_hour derated_watts
 with_hour_sound y u h s ok not_out later =
     let installed : ℕ = u.entry.rating.installed.0 in
     let service : ℕ = cond (is_peak y h && leb h.kind excused) 1 0 in
-    let ending : h.hour ≤ 24 = within_to _ _ _ (numbers_fit_lem y (Hour h) ok).1.1.1.0 in
+    let ending : h.hour ≤ 24 = within_to _ _ _ (numbers_fit_lem y (Ok (Hour h)) ok).1.1.1.0 in
     record {
       rating = s.rating;
       installed_least = s.installed_least;
@@ -160,8 +159,8 @@ abbrev pub DuesFit : Book → Type 0
 DuesFit b = (a p : ℕ) → p < party_count → nat_abs (due_in (facts_of_book b) a p) ≤ due_most
 
 -- the book after an accepted record is sound, field by field
-module _ (b : Book) (r : Record) (s : Sound b) (dues : DuesFit b) (ok : Accepted (asked (facts_of_book b) r) r) where
-  hour_sound : (h : HourRecord) → Accepted (asked (facts_of_book b) (Hour h)) (Hour h)
+module _ (b : Book) (r : Decoded) (s : Sound b) (dues : DuesFit b) (ok : Accepted (asked (facts_of_book b) r) r) where
+  hour_sound : (h : HourRecord) → Accepted (asked (facts_of_book b) (Ok (Hour h))) (Ok (Hour h))
       → SoundUnit (with_hour b.year (get_or b.units (unit_index h.unit) no_entry) h)
   hour_sound h passed = with_hour_sound b.year _ h (s.units.each _) passed.in_range_lem passed.not_out passed.later
 
@@ -190,7 +189,7 @@ module _ (b : Book) (r : Record) (s : Sound b) (dues : DuesFit b) (ok : Accepted
       }
 
 -- the book after a record that no row refuses
-pub after_sound : (b : Book) (r : Record) → Sound b → DuesFit b → refusal_of (asked (facts_of_book b) r) r ≡ 0 → Sound (after b r)
+pub after_sound : (b : Book) (r : Decoded) → Sound b → DuesFit b → refusal_of (asked (facts_of_book b) r) r ≡ 0 → Sound (after b r)
 after_sound b r s dues e = accepted_sound b r s dues (accepted (asked (facts_of_book b) r) r e)
 
 -- the book after any string, refused or not

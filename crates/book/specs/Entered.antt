@@ -7,13 +7,14 @@ use Rattle.money.specs.Lines.{line}
 use Rattle.records.specs.declared.format.UnitRecord.{UnitRecord}
 use Rattle.records.specs.declared.format.HourRecord.{HourRecord}
 use Rattle.records.specs.declared.format.LoadRecord.{LoadRecord}
-use Rattle.records.specs.declared.format.Record.{Record}
 use Rattle.records.specs.Format.{party_count}
 use Rattle.records.specs.Decoded.{decoded}
-use Rattle.records.specs.Kinds.{of_year, of_area, of_unit, of_commitment, of_hour, of_load, of_post}
+use Rattle.records.specs.Kinds.{Decoded, of_year, of_area, of_unit, of_commitment, of_hour, of_load, of_post}
 use Rattle.rules.specs.Hours.{hour_index, counted}
 use Rattle.rules.specs.Facts.{no_hours}
 use Rattle.rules.specs.Dues.{due_in}
+use Rattle.rules.specs.declared.refusal.Refusal.{Refusal}
+use Rattle.rules.specs.Refusal.{number_of}
 use Rattle.rules.specs.Rules.{area_index, unit_index, number_index, party_index, refusal}
 use Rattle.book.specs.declared.Unit as unit
 use Rattle.book.specs.declared.Book.{Book}
@@ -37,7 +38,7 @@ obligations_after b l =
     set b.obligations (area_index l.area) (set (get_or b.obligations (area_index l.area) no_obligations) (party_index l.party) l.obligation)
 
 -- the units after an accepted record: a new one, or one with an hour more
-abbrev pub units_after : Book → Record → List unit.Unit
+abbrev pub units_after : Book → Decoded → List unit.Unit
 units_after b r =
     of_unit
     (of_hour b.units (λ h. set b.units (unit_index h.unit) (with_hour b.year (get_or b.units (unit_index h.unit) no_entry) h)) r)
@@ -45,7 +46,7 @@ units_after b r =
     r
 
 -- the book after an accepted record, field by field; rows 1 to 3 accept nothing that is Unframed
-abbrev pub after : Book → Record → Book
+abbrev pub after : Book → Decoded → Book
 after b r = record {
   year = of_year b.year (λ y. y) r;
   areas = of_area b.areas (λ a. set b.areas (area_index a.area) a) r;
@@ -64,7 +65,7 @@ unfoldable pub post_lines : Book → ℕ → List Cents
 post_lines b a = list_below party_count (λ p. cents (line (due_in (facts_of_book b) a p) (posted_in b.posted a p)))
 
 -- only a Post has lines other than zero
-abbrev pub lines_of : Book → Record → List Cents
+abbrev pub lines_of : Book → Decoded → List Cents
 lines_of b r = of_post no_lines (λ a. post_lines b (area_index a)) r
 
 -- what a record is answered with: the number of its refusal or 0, the sixteen lines, and the book after it
@@ -76,10 +77,13 @@ pub record Answer : Type 0 where
 abbrev pub answer : ℕ → List Cents → Book → Answer
 answer number lines book = record { number = number; lines = lines; book = book }
 
--- the answer that a result and the book after it are: lines have the number 0, and a refusal has sixteen zero lines
-abbrev pub answered : Result (List Cents) ℕ → Book → Answer
-answered (Ok lines) book = answer 0 lines book
-answered (Err number) book = answer number no_lines book
+-- the answer that a result and the book after it are: a refusal has sixteen zero lines
+abbrev pub lines_given : Result (List Cents) Refusal → List Cents
+lines_given (Ok lines) = lines
+lines_given (Err row) = no_lines
+
+abbrev pub answered : Result (List Cents) Refusal → Book → Answer
+answered result book = answer (number_of result) (lines_given result) book
 
 -- A string's answer: the number of its refusal with sixteen zero lines and the same book; where no row fits, 0, the lines of
 -- its kind, and the book after it.

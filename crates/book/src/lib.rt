@@ -1,17 +1,17 @@
 // The book: units, commitments and posted sums, one value; records are entered, and areas posted.
 #![tactic(auto)]
 
-ghost use Rattle.std.specs.Prelude.{◌≡◌, length};
+ghost use Rattle.std.specs.Prelude.{◌≡◌, cond, length};
 ghost use Rattle.book.specs.Books.{empty_book, Sound};
 ghost use Rattle.book.specs.Entered.{answered, entered};
-ghost use Rattle.book.specs.Runs.{run, hours_between};
+ghost use Rattle.book.specs.Runs.{is_accepted_hour, run, hours_between};
 
 use capacity::rating::HourCounts;
 use money::Cents;
 use records::decode::{decode, hour_of};
 use records::format::{AreaRecord, CommitmentRecord, HOUR_BYTES, Record, UnitRecord};
-use rules::indices::{area_named, number_index, party_index, unit_index, unit_named};
-use rules::refusal::{asked_of, hour, refusal};
+use rules::indices::{self, area_named, index, unit_named};
+use rules::refusal::{Asked, Refusal};
 
 // A unit: its record, and what its accepted hours come to.
 #[derive(Clone, Copy)]
@@ -37,13 +37,13 @@ pub struct Book {
 }
 
 impl Book {
-    pub const AREAS: usize = 8;
+    pub const AREAS: usize = indices::AREAS;
 
-    pub const UNITS: usize = 32;
+    pub const UNITS: usize = indices::UNITS;
 
-    pub const PARTIES: usize = 16;
+    pub const PARTIES: usize = indices::PARTIES;
 
-    pub const COMMITMENTS: usize = 64;
+    pub const COMMITMENTS: usize = indices::COMMITMENTS;
 
     // A book with nothing entered.
     pub fn new() -> Self
@@ -66,41 +66,58 @@ impl Book {
         }
     }
 
-    // One string of bytes: counted, or refused by number. Only a Post has lines other than zero.
-    pub fn enter(&mut self, bytes: &[u8]) -> Result<[Cents; Book::PARTIES], u32>
+    // One string of bytes: counted, or refused. Only a Post has lines other than zero.
+    pub fn enter(&mut self, bytes: &[u8]) -> Result<[Cents; Book::PARTIES], Refusal>
         requires { Sound self.old }
         ensures value { answered result self.new ≡ entered self.old bytes.now }
         ensures sound { Sound self.new }
     {
-        let r = decode(bytes);
+        let r = decode(bytes)?;
         let i = area_named(r);
         let j = unit_named(r);
         let unit = self.units[j];
-        let n = refusal(asked_of(self.year, self.areas[i], unit.entry, unit.last), r);
-        if n != 0 {
-            return Err(n);
-        }
+        let asked = Asked::new(self.year, self.areas[i], unit.entry, unit.last);
+        asked.admit(r)?;
         match r {
             Record::Year(y) => self.year = y,
             Record::Area(a) => self.areas[i] = a,
             Record::Unit(u) => self.units[j] = Unit::new(u),
             Record::Commitment(c) => {
-                let k = number_index(c.number);
+                let k = index::<{ Book::COMMITMENTS }>(c.number);
                 self.commitments[k] = c;
             }
             Record::Hour(h) => self.units[j] = unit.with_hour(self.year, h),
             Record::Load(l) => {
-                let p = party_index(l.party);
+                let p = index::<{ Book::PARTIES }>(l.party);
                 self.obligations[i][p] = l.obligation;
             }
             Record::Post(_) => return self.post(i),
-            Record::Unframed(_) => {}
         }
         Ok([Cents::zero(); Book::PARTIES])
     }
 
+    // An Hour as `enter` takes it, and nothing else: whether it was accepted.
+    fn enter_hour(&mut self, bytes: &[u8]) -> bool
+        requires { Sound self.old }
+        ensures value { result ≡ is_accepted_hour self.old bytes.now }
+        ensures book { self.new ≡ cond result (entered self.old bytes.now).book self.old }
+        ensures sound { Sound self.new }
+    {
+        let Some(h) = hour_of(bytes) else {
+            return false;
+        };
+        let j = index::<{ Book::UNITS }>(h.unit);
+        let unit = self.units[j];
+        let asked = Asked::new(self.year, self.areas[0], unit.entry, unit.last);
+        if asked.admit_hour(h).is_err() {
+            return false;
+        }
+        self.units[j] = unit.with_hour(self.year, h);
+        true
+    }
+
     // The Hour records at the start of a slice, entered one after another: up to the first record that is anything else or
-    // would be refused, which is at the place that is answered.
+    // would be refused. Answers where that begins.
     pub fn hours(&mut self, s: &[u8]) -> usize
         requires { Sound self.old }
         ensures value { run result self.new ≡ hours_between self.old s.now 0 (length s.now) }
@@ -108,13 +125,9 @@ impl Book {
     {
         let mut end = 0;
         for bytes in s.chunks_exact(HOUR_BYTES) {
-            let h = hour_of(bytes);
-            let j = unit_index(h.unit);
-            let unit = self.units[j];
-            if hour(asked_of(self.year, self.areas[0], unit.entry, unit.last), h) != 0 {
-                return end;
+            if !self.enter_hour(bytes) {
+                break;
             }
-            self.units[j] = unit.with_hour(self.year, h);
             end += HOUR_BYTES;
         }
         end

@@ -17,7 +17,8 @@ use money::Cents;
 use money::area::{AreaMoney, area_money};
 use money::lines::lines;
 use records::format::CommitmentRecord;
-use rules::indices::party_index;
+use rules::indices::index;
+use rules::refusal::Refusal;
 
 // The parties' parts of unit u's V.
 fn parts(commitments: &[CommitmentRecord; Book::COMMITMENTS], u: usize) -> [u64; Book::PARTIES]
@@ -27,7 +28,7 @@ fn parts(commitments: &[CommitmentRecord; Book::COMMITMENTS], u: usize) -> [u64;
     let mut parts = [0; Book::PARTIES];
     for c in commitments {
         if c.unit as usize == u + 1 {
-            let p = party_index(c.party);
+            let p = index::<{ Book::PARTIES }>(c.party);
             parts[p] += watt_days(c.watts as u64, c.first as u64, c.last as u64);
         }
     }
@@ -68,13 +69,13 @@ impl Book {
     }
 
     // The post of an area that is entered: row 11, or the lines and the posted sums.
-    pub(crate) fn post(&mut self, area: usize) -> Result<[Cents; Book::PARTIES], u32>
+    pub(crate) fn post(&mut self, area: usize) -> Result<[Cents; Book::PARTIES], Refusal>
         requires { Sound self.old × (area < area_count) }
         ensures { answered result self.new ≡ post_answer self.old area }
     {
         let money = self.area_settled(area);
         if money.undistributed {
-            return Err(11);
+            return Err(Refusal::Undistributed);
         }
         let dues = money.dues;
         let lines = lines(dues, self.posted[area]);

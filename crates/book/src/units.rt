@@ -7,7 +7,7 @@ use crate::Unit;
 use capacity::InstalledWatts;
 use capacity::rating::{HourCounts, Rating};
 use records::format::{HourRecord, UnitRecord};
-use rules::hour::{derated_watts, hour_index, outage_hour, service_hour};
+use rules::hour::{hour_counts, hour_index};
 
 const NO_HOURS: HourCounts = HourCounts {
     service: 0,
@@ -49,12 +49,13 @@ impl Unit {
         ensures { result ≡ with_hour year self h }
     {
         let counts = self.hours;
+        let more = hour_counts(year, h);
         Self {
             entry: self.entry,
             hours: HourCounts {
-                service: counts.service + service_hour(year, h),
-                outage: counts.outage + outage_hour(year, h),
-                derated: counts.derated + derated_watts(year, h),
+                service: counts.service + more.service,
+                outage: counts.outage + more.outage,
+                derated: counts.derated + more.derated,
             },
             last: hour_index(year, h),
         }

@@ -10,11 +10,11 @@ pub loop-k-preserved : goal.loop-k-preserved
 loop-k-preserved c =
     let b = c.args.self.now in
     elim c.if-of-this.branch [
-      then-of-this w ↦
-      w.nets-is
-      ∙ nets_more b c.requires.0 _ _ (omega arith) c.loop-k.invariant w.if-of-this.true w.parts.ensures c.delivery_days-days.ensures w.unit_shares-shares.ensures
-      w.add_shares-more.ensures
-    | else-of-this w ↦ w.nets-is ∙ nets_same b c.requires.0 _ _ (omega arith) c.loop-k.invariant w.if-of-this.false
+      | then-of-this w ↦
+          w.nets-is
+          ∙ nets_more b c.requires.0 _ _ (omega arith) c.loop-k.invariant w.if-of-this.true w.parts.ensures c.delivery_days-days.ensures w.unit_shares-shares.ensures
+          w.add_shares-more.ensures
+      | else-of-this w ↦ w.nets-is ∙ nets_same b c.requires.0 _ _ (omega arith) c.loop-k.invariant w.if-of-this.false
     ]
 
 pub returns : goal.returns

@@ -3,5 +3,4 @@ use Rattle.book.proofs.Unit.with_hour.Goals as goal
 
 pub returns : goal.returns
 unfolding counted
-returns c =
-    simp (c.hour_index.ensures, c.derated_watts.ensures.0, c.outage_hour.ensures.0, c.service_hour.ensures.0)
+returns c = simp (c.hour_index.ensures, c.hour_counts-more.ensures.value)
