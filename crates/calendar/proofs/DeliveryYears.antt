@@ -1,6 +1,6 @@
--- The day of the delivery year, by the day of the calendar year.
-use Rattle.std.proofs.Common.{◌≡◌, refl, Bool, true, false, cond, ℕ, ◌+◌, ◌-◌, ◌≤◌, ◌<◌, arith, leb, leb-true, leb-false, le-leb}
-use borrow.Author.Tests.{lt-leb}
+-- The day of the delivery year is one of its days.
+use Rattle.std.proofs.Common.{◌≡◌, refl, Bool, true, ℕ, ◌+◌, ◌≤◌, ◌<◌, arith}
+use Rattle.std.proofs.lemmas.Bool.Decides.{nat_tests}
 use Rattle.numbers.specs.Sum.{sum_below}
 use Rattle.numbers.specs.Range.{within}
 use Rattle.numbers.proofs.Sums.{sum_grows, sum_term}
@@ -10,53 +10,46 @@ use Rattle.calendar.proofs.Months.{year_small, year_months, before_june}
 use Rattle.calendar.proofs.Years.{year_step}
 use Rattle.calendar.proofs.Dates.{DateFacts, date_facts}
 
-pub from_june : (y m : ℕ) → 6 ≤ m → calendar_year y m ≡ y
-unfolding calendar_year
-from_june y m h = simp (le-leb 6 m h)
+-- day n is one of the days of delivery year y, which begin at 1 June
+pub record InYear (y n : ℕ) : Type 0 where
+  pub from : day_number y 6 1 ≤ n
+  pub to : n < day_number y 6 1 + delivery_days y
 
-pub to_may : (y m : ℕ) → m < 6 → calendar_year y m ≡ y + 1
-unfolding calendar_year
-to_may y m h = simp (lt-leb 6 m h)
+june_in_year : (y m d : ℕ) → is_date y m d ≡ true → 6 ≤ m → InYear y (day_number y m d)
+unfolding delivery_days day_number day_of_year
+june_in_year y m d e june =
+    let f : DateFacts y m d = date_facts y m d e in
+    record {
+      from = omega (arith, sum_grows 6 m (month_days (leap_year y)) june);
+      to =
+          omega (
+            arith,
+            sum_term m 13 (month_days (leap_year y)) (omega arith),
+            year_months (leap_year y),
+            before_june (leap_year y),
+            before_june (leap_year (y + 1)),
+          );
+    }
 
--- the days by what is known of y + 1
-pub days_by : (y : ℕ) (leap : Bool) → leap_year (y + 1) ≡ leap → cond leap 366 365 ≡ delivery_days y
-unfolding delivery_days
-days_by y leap e = rw e
+may_in_year : (y m d : ℕ) → is_date (y + 1) m d ≡ true → m < 6 → InYear y (day_number (y + 1) m d)
+unfolding delivery_days day_number day_of_year
+may_in_year y m d e may =
+    let f : DateFacts (y + 1) m d = date_facts (y + 1) m d e in
+    record {
+      from = omega (arith, year_step y, before_june (leap_year y));
+      to =
+          omega (
+            arith,
+            sum_term m 6 (month_days (leap_year (y + 1))) may,
+            year_step y,
+            before_june (leap_year y),
+            before_june (leap_year (y + 1)),
+          );
+    }
 
-pub no_date : (y m d : ℕ) → is_delivery_date y m d ≡ false → delivery_day y m d ≡ 0
-unfolding delivery_day
-no_date y m d e = simp e
-
--- a date from June to December
-pub record FromJune (y m d : ℕ) : Type 0 where
-  pub date : DateFacts y m d
-  pub later : day_of_year y 6 1 ≤ day_of_year y m d
-  pub day : delivery_day y m d ≡ day_of_year y m d - day_of_year y 6 1
-
-june_day : (y m d : ℕ) → is_delivery_date y m d ≡ true → 6 ≤ m → delivery_day y m d ≡ day_of_year y m d - day_of_year y 6 1
-unfolding delivery_day day_number
-june_day y m d e h = simp (e, from_june y m h) (omega arith)
-
-pub day_from_june : (y m d : ℕ) → is_delivery_date y m d ≡ true → 6 ≤ m → FromJune y m d
-unfolding is_delivery_date day_of_year
-day_from_june y m d e h =
-    let f : DateFacts y m d = date_facts y m d (rw (from_june y m h) at e) in
-    record { date = f; later = omega (arith, sum_grows 6 m (month_days (leap_year y)) h, f.from); day = june_day y m d e h }
-
--- a date from January to May: the 214 days from June to December lie before its year
-pub record ToMay (y m d : ℕ) : Type 0 where
-  pub date : DateFacts (y + 1) m d
-  pub day : delivery_day y m d ≡ 214 + day_of_year (y + 1) m d - 1
-
-may_day : (y m d : ℕ) → is_delivery_date y m d ≡ true → m < 6 → 1 ≤ d → delivery_day y m d ≡ 214 + day_of_year (y + 1) m d - 1
-unfolding delivery_day day_number day_of_year
-may_day y m d e h from = simp (e, to_may y m h) (omega (arith, year_step y, before_june (leap_year y)))
-
-pub day_to_may : (y m d : ℕ) → is_delivery_date y m d ≡ true → m < 6 → ToMay y m d
-unfolding is_delivery_date
-day_to_may y m d e h =
-    let f : DateFacts (y + 1) m d = date_facts (y + 1) m d (rw (to_may y m h) at e) in
-    record { date = f; day = may_day y m d e h f.from }
+pub in_year : (y m d : ℕ) → is_delivery_date y m d ≡ true → InYear y (day_number (calendar_year y m) m d)
+unfolding is_delivery_date calendar_year
+in_year y m d e = grind (arith, nat_tests, june_in_year y m d, may_in_year y m d)
 
 june_first : (y : ℕ) → is_delivery_date y 6 1 ≡ true
 unfolding is_delivery_date calendar_year is_date within month_days
@@ -71,32 +64,21 @@ unfolding sum_below month_days within
 may_days leap = refl
 
 pub first_day : (y : ℕ) → delivery_day y 6 1 ≡ 0
-first_day y = omega (arith, june_day y 6 1 (june_first y) (omega arith))
+unfolding delivery_day calendar_year
+first_day y = grind (arith, nat_tests, june_first y)
 
 pub last_day : (y : ℕ) → delivery_day y 5 31 + 1 ≡ delivery_days y
-unfolding delivery_days day_of_year
+unfolding delivery_day delivery_days day_number day_of_year calendar_year
 last_day y =
-    omega (arith, may_day y 5 31 (may_last y) (omega arith) (omega arith), may_days (leap_year (y + 1)), before_june (leap_year (y + 1)))
+    grind (arith, nat_tests, may_last y, year_step y, may_days (leap_year (y + 1)), before_june (leap_year y), before_june (leap_year (y + 1)))
 
 pub day_below : (y m d : ℕ) → delivery_day y m d < delivery_days y
-unfolding delivery_days day_of_year
-day_below y m d = go (is_delivery_date y m d) refl (leb 6 m) refl
-  where
-    go : (a : Bool) → is_delivery_date y m d ≡ a → (b : Bool) → leb 6 m ≡ b → delivery_day y m d < delivery_days y
-    go false qa b qb = omega (arith, no_date y m d qa, before_june (leap_year (y + 1)))
-    go true qa true qb =
-        let f : FromJune y m d = day_from_june y m d qa (leb-true 6 m qb) in
-        omega (
-          arith,
-          sum_term m 13 (month_days (leap_year y)) (omega (arith, f.date.month)),
-          year_months (leap_year y),
-          before_june (leap_year y),
-          before_june (leap_year (y + 1)),
-        )
-    go true qa false qb =
-        let f : ToMay y m d = day_to_may y m d qa (leb-false 6 m qb) in
-        omega (arith, sum_term m 6 (month_days (leap_year (y + 1))) (leb-false 6 m qb), before_june (leap_year (y + 1)))
+unfolding delivery_day
+day_below y m d = grind (arith, nat_tests, in_year y m d, last_day y)
+
+pub days_at_most : (y : ℕ) → delivery_days y ≤ 366
+unfolding delivery_days
+days_at_most y = year_small (leap_year (y + 1))
 
 pub day_small : (y m d : ℕ) → delivery_day y m d < 366
-unfolding delivery_days
-day_small y m d = omega (arith, day_below y m d, year_small (leap_year (y + 1)))
+day_small y m d = omega (arith, day_below y m d, days_at_most y)

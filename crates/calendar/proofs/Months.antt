@@ -1,46 +1,30 @@
 -- The months of a year, 0 to 12: computed tests, and what they say of each month.
-use Rattle.std.proofs.Common.{◌≡◌, refl, Bool, true, false, cond, ◌&&◌, ◌||◌, ℕ, ◌+◌, ◌<◌, ◌≤◌, arith, leb, ltb, eqb, eqb-true, ne_eqb, leb-true}
-use mathlib.Core.Bool.{and-false}
-use borrow.Author.Tests.{lt-leb}
+use Rattle.std.proofs.Common.{◌≡◌, refl, Bool, true, false, cond, ◌&&◌, ℕ, ◌+◌, zero, suc, ◌<◌, ◌≤◌, arith, ltb, eqb}
+use Rattle.std.proofs.lemmas.Bool.Decides.{nat_tests}
 use Rattle.numbers.specs.Sum.{sum_below}
 use Rattle.numbers.specs.Range.{within}
-use Rattle.numbers.proofs.Tests.{all_below, each_below}
 use Rattle.numbers.proofs.Sums.{sum_grows}
 use Rattle.calendar.specs.Gregorian.{month_days}
 
--- what is tested of each month
-abbrev before_test : Bool → ℕ → Bool
-before_test leap m = eqb (sum_below m (month_days false) + cond (leap && ltb 2 m) 1 0) (sum_below m (month_days leap))
-
-abbrev start_test : Bool → ℕ → Bool
-start_test leap m = eqb m 0 || leb 1 (month_days leap m)
-
--- a test that passes at the months of either kind of year
-by_months : (test : Bool → ℕ → Bool) → all_below 13 (test true) ≡ true → all_below 13 (test false) ≡ true
-    → (leap : Bool) (m : ℕ) → m ≤ 12 → test leap m ≡ true
-by_months test t f true m h = each_below 13 (test true) t m (omega arith)
-by_months test t f false m h = each_below 13 (test false) f m (omega arith)
-
-before_pass : (leap : Bool) (m : ℕ) → m ≤ 12 → before_test leap m ≡ true
-unfolding all_below sum_below month_days within
-before_pass = by_months before_test refl refl
-
-starts_pass : (leap : Bool) (m : ℕ) → m ≤ 12 → start_test leap m ≡ true
-unfolding all_below month_days within
-starts_pass = by_months start_test refl refl
-
 pub no_month : (leap : Bool) (m : ℕ) → 12 < m → month_days leap m ≡ 0
 unfolding month_days within
-no_month leap m h =
-    let not : (k : ℕ) → k ≤ 12 → eqb m k ≡ false = λ k le. ne_eqb m k (omega arith) in
-    simp (not 2 (omega arith), not 4 (omega arith), not 6 (omega arith), not 9 (omega arith), not 11 (omega arith), lt-leb m 12 h, and-false)
-
-pub before_at : (leap : Bool) (m : ℕ) → m ≤ 12 → sum_below m (month_days false) + cond (leap && ltb 2 m) 1 0 ≡ sum_below m (month_days leap)
-before_at leap m h = eqb-true _ _ (before_pass leap m h)
+no_month leap m h = grind (arith, nat_tests)
 
 -- every month has a first day
 pub month_starts : (leap : Bool) (m : ℕ) → 1 ≤ m → m ≤ 12 → 1 ≤ month_days leap m
-month_starts leap m from to = leb-true _ _ (simp (ne_eqb m 0 (omega arith)) at (starts_pass leap m to))
+unfolding month_days within
+month_starts leap m from to = grind (arith, nat_tests)
+
+-- in a leap year February has a day more
+leap_february : (leap : Bool) (m : ℕ) → month_days leap m ≡ month_days false m + cond (leap && eqb m 2) 1 0
+unfolding month_days
+leap_february leap m = grind (arith, nat_tests)
+
+-- the days before a month, by those of a common year
+pub before_at : (leap : Bool) (m : ℕ) → sum_below m (month_days false) + cond (leap && ltb 2 m) 1 0 ≡ sum_below m (month_days leap)
+unfolding sum_below
+before_at leap zero = grind (arith, nat_tests)
+before_at leap (suc m) = grind (arith, nat_tests, before_at leap m, leap_february leap m)
 
 -- the days of a whole year, and of its months up to June
 abbrev pub year_days : Bool → ℕ
@@ -68,5 +52,14 @@ unfolding sum_below month_days within
 before_june true = refl
 before_june false = refl
 
-pub before_small : (leap : Bool) (m : ℕ) → m ≤ 12 → sum_below m (month_days leap) ≤ 366
-before_small leap m h = omega (arith, sum_grows m 13 (month_days leap) (omega arith), year_months leap, year_small leap)
+-- after December no month adds a day
+pub all_before : (leap : Bool) (m : ℕ) → 12 < m → sum_below m (month_days leap) ≡ year_days leap
+unfolding sum_below
+all_before leap zero h = absurd (omega arith)
+all_before leap (suc m) h = grind (arith, all_before leap m, no_month leap m, december)
+  where
+    december : m ≡ 12 → sum_below (suc m) (month_days leap) ≡ year_days leap
+    december e = rw e (year_months leap)
+
+pub before_small : (leap : Bool) (m : ℕ) → sum_below m (month_days leap) ≤ 366
+before_small leap m = grind (arith, all_before leap m, sum_grows m 13 (month_days leap), year_months leap, year_small leap)

@@ -1,12 +1,9 @@
 -- The third Monday, and the months of the peak periods.
-use Rattle.std.proofs.Common.{◌≡◌, refl, true, ⊎_elim, ℕ, ◌≤◌, arith}
-use mathlib.Core.Bool.{and-eq-true_iff}
+use Rattle.std.proofs.Common.{◌≡◌, refl, ℕ, ◌≤◌, arith}
 use Rattle.numbers.specs.Sum.{sum_below}
 use Rattle.numbers.specs.Range.{within}
-use Rattle.numbers.proofs.Tests.{or_cases, within_to}
 use Rattle.calendar.specs.Gregorian.{leap_year, month_days, multiples_below, days_before_year, day_of_year, day_number}
 use Rattle.calendar.specs.Week.{monday, tuesday, weekday, first_monday, third_monday}
-use Rattle.calendar.specs.Peak.{summer_peak, winter_peak, peak_period}
 
 pub known_weekday : weekday 2011 7 5 ≡ tuesday
 unfolding sum_below within leap_year month_days multiples_below days_before_year day_of_year day_number weekday
@@ -28,10 +25,3 @@ module _ (y m : ℕ) where
   pub third_monday_only : (d : ℕ) → 15 ≤ d → d ≤ 21 → weekday y m d ≡ monday → d ≡ third_monday y m
   unfolding third_monday first_monday weekday day_number day_of_year
   third_monday_only d from to is = omega arith
-
--- the months of the peak periods are months
-pub peak_month : (m h : ℕ) → peak_period m h ≡ true → m ≤ 12
-unfolding peak_period summer_peak winter_peak
-peak_month m h e =
-    ⊎_elim (λ s. omega (arith, within_to 6 8 m ((and-eq-true_iff _ _).0 s).0))
-    (λ w. omega (arith, within_to 1 2 m ((and-eq-true_iff _ _).0 w).0)) (or_cases (summer_peak m h) (winter_peak m h) e)

@@ -1,6 +1,6 @@
 -- Peak hours, and the peak question.
 -- 01, Hours; 002 (b), where they are called Peak-Hour Periods.
-use Rattle.std.specs.Prelude.{Bool, not, cond, ◌&&◌, ◌||◌, ℕ, ltb}
+use Rattle.std.specs.Prelude.{Bool, not, cond, ◌&&◌, ◌||◌, ℕ, ltb, Option, Some, None}
 use Rattle.numbers.specs.Range.{within}
 use Rattle.calendar.specs.Gregorian.{is_date}
 use Rattle.calendar.specs.Week.{saturday, weekday, is_holiday}
@@ -32,3 +32,8 @@ is_answered y m d h = is_date y m d && within 1 24 h && within 2007 2100 y
 -- what the peak question answers: 1 peak, 0 not, 2 where it has no answer
 unfoldable pub peak_answer : ℕ → ℕ → ℕ → ℕ → ℕ
 peak_answer y m d h = cond (is_answered y m d h) (cond (peak_hour y m d h) 1 0) 2
+
+-- the number of an answer: no two answers have the same
+unfoldable pub peak_number : Option Bool → ℕ
+peak_number None = 2
+peak_number (Some is_peak) = cond is_peak 1 0

@@ -1,60 +1,69 @@
 // The delivery year: from 1 June of year y to 31 May of y + 1. For the book.
-ghost use Rattle.std.specs.Prelude.{◌≡◌, ◌≤◌, ◌^◌};
+ghost use Rattle.std.specs.Prelude.{◌≡◌};
 ghost use Rattle.calendar.specs.DeliveryYear.{delivery_days, calendar_year, is_delivery_date, delivery_day, is_delivery_peak};
 
-use crate::gregorian::{day_of_year, is_date, leap_year};
-use crate::peak::is_peak;
+use crate::gregorian::{Date, is_leap_year};
 
-// The days of delivery year y.
-pub fn delivery_days(y: u32) -> u32
-    ensures { result ≡ delivery_days y }
+// The days of a delivery year.
+#[tactic(auto, unfolding(crate::specs::DeliveryYear::delivery_days))]
+pub fn delivery_days(year: u32) -> u32
+    ensures { result ≡ delivery_days year }
 {
-    if leap_year(y as u64 + 1) { 366 } else { 365 }
+    365 + is_leap_year(year as u64 + 1) as u32
 }
 
-fn calendar_year(y: u32, month: u32) -> u64
-    ensures { (result ≡ calendar_year y month) × (result ≤ 2 ^ 32) }
-{
-    if 6 <= month { y as u64 } else { y as u64 + 1 }
+// A month and a day of a delivery year. They may be no date.
+#[derive(Clone, Copy)]
+pub struct DeliveryDate {
+    pub year: u32,
+    pub month: u32,
+    pub day: u32,
 }
 
-// Whether (month, day) is a date of delivery year y.
-pub fn is_delivery_date(y: u32, month: u32, day: u32) -> bool
-    ensures { result ≡ is_delivery_date y month day }
-{
-    is_date(calendar_year(y, month), month as u64, day as u64)
-}
-
-// The days from 1 June to 31 December.
-const JUNE_TO_DECEMBER: u64 = 214;
-
-// The day of delivery year y, where day 0 is 1 June; 0 also where (month, day) is no date of it.
-pub fn delivery_day(y: u32, month: u32, day: u32) -> u32
-    ensures { result ≡ delivery_day y month day }
-{
-    if is_delivery_date(y, month, day) {
-        let year = y as u64;
-        let m = month as u64;
-        let d = day as u64;
-        if 6 <= month {
-            return (day_of_year(year, m, d) - day_of_year(year, 6, 1)) as u32;
+impl DeliveryDate {
+    // June to December lie in the year that the delivery year is named by, January to May in the next.
+    #[tactic(auto, unfolding(crate::specs::DeliveryYear::calendar_year))]
+    fn date(self) -> Date
+        ensures year { result.year ≡ calendar_year self.year self.month }
+        ensures month { result.month ≡ self.month }
+        ensures day { result.day ≡ self.day }
+    {
+        Date {
+            year: self.year as u64 + (self.month < 6) as u64,
+            month: self.month,
+            day: self.day,
         }
-        return (JUNE_TO_DECEMBER + day_of_year(year + 1, m, d) - 1) as u32;
     }
-    0
-}
 
-// Whether (month, day) is a date of delivery year y and its hour ending hour_ending is peak.
-pub fn is_delivery_peak(y: u32, month: u32, day: u32, hour_ending: u32) -> bool
-    ensures { result ≡ is_delivery_peak y month day hour_ending }
-{
-    if is_delivery_date(y, month, day) {
-        return is_peak(
-            calendar_year(y, month),
-            month as u64,
-            day as u64,
-            hour_ending as u64,
-        );
+    // Whether the delivery year has this date.
+    #[tactic(auto, unfolding(crate::specs::DeliveryYear::is_delivery_date))]
+    pub fn is_date(self) -> bool
+        ensures { result ≡ is_delivery_date self.year self.month self.day }
+    {
+        self.date().is_in_calendar()
     }
-    false
+
+    // The day of the delivery year, where day 0 is 1 June; 0 also where it has no such date.
+    #[tactic(auto, using(crate::proofs::DeliveryYears::in_year, crate::proofs::DeliveryYears::days_at_most), unfolding(crate::specs::DeliveryYear::delivery_day))]
+    pub fn day_of_year(self) -> u32
+        ensures { result ≡ delivery_day self.year self.month self.day }
+    {
+        if !self.is_date() {
+            return 0;
+        }
+        let first_june = Date {
+            year: self.year as u64,
+            month: 6,
+            day: 1,
+        };
+        (self.date().day_number() - first_june.day_number()) as u32
+    }
+
+    // Whether the delivery year has this date, and its hour ending hour_ending is peak.
+    #[tactic(auto, unfolding(crate::specs::DeliveryYear::is_delivery_peak))]
+    pub fn is_peak(self, hour_ending: u32) -> bool
+        ensures { result ≡ is_delivery_peak self.year self.month self.day hour_ending }
+    {
+        self.is_date() && self.date().is_peak(hour_ending)
+    }
 }

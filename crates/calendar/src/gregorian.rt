@@ -1,81 +1,22 @@
-// The Gregorian calendar. Years are at most 2^32 and days below 2^32 where a sum must fit 64 bits.
+// The Gregorian calendar.
 ghost use Rattle.std.specs.Prelude.{◌≡◌, false, cond, ◌&&◌, ◌≤◌, ◌<◌, ◌^◌, ltb};
 ghost use Rattle.numbers.specs.Sum.{sum_below};
 ghost use Rattle.calendar.specs.Gregorian.{leap_year, month_days, days_of_month, is_date, days_before_year, days_before_month, day_of_year, day_number};
 
-use numbers::range::within;
-
-pub(crate) fn leap_year(year: u64) -> bool
+#[tactic(auto, unfolding(crate::specs::Gregorian::leap_year))]
+pub(crate) fn is_leap_year(year: u64) -> bool
     ensures { result ≡ leap_year year }
 {
-    if year % 4 != 0 {
-        return false;
-    }
-    if year % 100 != 0 {
-        return true;
-    }
-    year % 400 == 0
+    year % 4 == 0 && (year % 100 != 0 || year % 400 == 0)
 }
 
-fn days_of_month(year: u64, month: u64) -> u64
-    ensures { result ≡ days_of_month year month }
-{
-    if month == 2 {
-        if leap_year(year) {
-            return 29;
-        }
-        return 28;
-    }
-    if month == 4 {
-        return 30;
-    }
-    if month == 6 {
-        return 30;
-    }
-    if month == 9 {
-        return 30;
-    }
-    if month == 11 {
-        return 30;
-    }
-    if within(1, 12, month) {
-        return 31;
-    }
-    0
-}
-
-pub(crate) fn is_date(year: u64, month: u64, day: u64) -> bool
-    ensures { result ≡ is_date year month day }
-{
-    within(1, days_of_month(year, month), day)
-}
-
-fn days_before_year(year: u64) -> u64
-    requires { year ≤ 2 ^ 32 }
-    ensures { (result ≡ days_before_year year) × (result < 2 ^ 41) }
-{
-    365 * year + (year + 3) / 4 - (year + 99) / 100 + (year + 399) / 400
-}
-
-// The day that a leap year has more, from March on.
-fn leap_day(year: u64, month: u64) -> u64
-    ensures { result ≡ cond (leap_year year && ltb 2 month) 1 0 }
-{
-    if month <= 2 {
-        return 0;
-    }
-    if leap_year(year) {
-        return 1;
-    }
-    0
-}
-
-// The days before each month, 1 to 12, in a common year.
-fn days_before(month: u64) -> u64
-    requires { month ≤ 12 }
+// The days before each month in a common year.
+#[tactic(auto, using(crate::proofs::Months::none_before, crate::proofs::Months::all_before), unfolding(numbers::specs::Sum::sum_below, crate::specs::Gregorian::month_days, numbers::specs::Range::within))]
+fn days_before_month(month: u32) -> u32
     ensures { result ≡ sum_below month (month_days false) }
 {
     match month {
+        0..=1 => 0,
         2 => 31,
         3 => 59,
         4 => 90,
@@ -87,27 +28,65 @@ fn days_before(month: u64) -> u64
         10 => 273,
         11 => 304,
         12 => 334,
-        _ => 0,
+        _ => 365,
     }
 }
 
-fn days_before_month(year: u64, month: u64) -> u64
-    requires { month ≤ 12 }
-    ensures { (result ≡ days_before_month year month) × (result ≤ 366) }
-{
-    days_before(month) + leap_day(year, month)
+// A date as it is asked for: the calendar may not have it. Its year is bounded so that the number of its day fits 64 bits.
+#[derive(Clone, Copy)]
+pub(crate) struct Date {
+    pub(crate) year: u64,
+    pub(crate) month: u32,
+    pub(crate) day: u32,
+    ghost year_fits: { year ≤ 2 ^ 32 },
 }
 
-pub(crate) fn day_of_year(year: u64, month: u64, day: u64) -> u64
-    requires { (month ≤ 12) × (day < 2 ^ 32) }
-    ensures { (result ≡ day_of_year year month day) × (result < 2 ^ 33) }
-{
-    days_before_month(year, month) + day
-}
+impl Date {
+    #[tactic(auto, unfolding(crate::specs::Gregorian::month_days, numbers::specs::Range::within))]
+    fn days_of_month(self) -> u32
+        ensures { result ≡ days_of_month self.year self.month }
+    {
+        match self.month {
+            2 if is_leap_year(self.year) => 29,
+            2 => 28,
+            4 | 6 | 9 | 11 => 30,
+            1..=12 => 31,
+            _ => 0,
+        }
+    }
 
-pub(crate) fn day_number(year: u64, month: u64, day: u64) -> u64
-    requires { (year ≤ 2 ^ 32) × (month ≤ 12) × (day < 2 ^ 32) }
-    ensures { (result ≡ day_number year month day) × (result < 2 ^ 42) }
-{
-    days_before_year(year) + day_of_year(year, month, day)
+    #[tactic(auto, unfolding(crate::specs::Gregorian::is_date, numbers::specs::Range::within))]
+    pub(crate) fn is_in_calendar(self) -> bool
+        ensures { result ≡ is_date self.year self.month self.day }
+    {
+        1 <= self.day && self.day <= self.days_of_month()
+    }
+
+    #[tactic(auto, unfolding(crate::specs::Gregorian::days_before_year, crate::specs::Gregorian::multiples_below))]
+    fn days_before_year(self) -> u64
+        ensures { (result ≡ days_before_year self.year) × (result < 2 ^ 41) }
+    {
+        365 * self.year + (self.year + 3) / 4 - (self.year + 99) / 100 + (self.year + 399) / 400
+    }
+
+    // The day that a leap year has more, from March on.
+    fn leap_day(self) -> u64
+        ensures { result ≡ cond (leap_year self.year && ltb 2 self.month) 1 0 }
+    {
+        (2 < self.month && is_leap_year(self.year)) as u64
+    }
+
+    #[tactic(auto, using(crate::proofs::Months::before_at, crate::proofs::Months::before_small), unfolding(crate::specs::Gregorian::day_of_year))]
+    fn day_of_year(self) -> u64
+        ensures { (result ≡ day_of_year self.year self.month self.day) × (result < 2 ^ 33) }
+    {
+        days_before_month(self.month) as u64 + self.leap_day() + self.day as u64
+    }
+
+    #[tactic(auto, unfolding(crate::specs::Gregorian::day_number))]
+    pub(crate) fn day_number(self) -> u64
+        ensures { (result ≡ day_number self.year self.month self.day) × (result < 2 ^ 42) }
+    {
+        self.days_before_year() + self.day_of_year()
+    }
 }

@@ -1,59 +1,31 @@
 // Peak hours.
-ghost use Rattle.std.specs.Prelude.{◌≡◌, ◌≤◌, ◌<◌, ◌^◌};
-ghost use Rattle.calendar.specs.Peak.{summer_peak, winter_peak, peak_period, peak_day, peak_hour};
+ghost use Rattle.std.specs.Prelude.{◌≡◌};
+ghost use Rattle.calendar.specs.Peak.{peak_period, peak_day, peak_hour};
 
-use crate::week::{is_holiday, weekday};
-use numbers::range::within;
+use crate::gregorian::Date;
 
 const SATURDAY: u64 = 5;
 
-fn is_summer_peak(month: u64, hour_ending: u64) -> bool
-    ensures { result ≡ summer_peak month hour_ending }
-{
-    if within(6, 8, month) {
-        return within(15, 19, hour_ending);
-    }
-    false
-}
-
-fn is_winter_peak(month: u64, hour_ending: u64) -> bool
-    ensures { result ≡ winter_peak month hour_ending }
-{
-    if within(1, 2, month) {
-        if within(8, 9, hour_ending) {
-            return true;
-        }
-        return within(19, 20, hour_ending);
-    }
-    false
-}
-
-fn in_peak_period(month: u64, hour_ending: u64) -> bool
+#[tactic(auto, unfolding(crate::specs::Peak::peak_period, crate::specs::Peak::summer_peak, crate::specs::Peak::winter_peak, numbers::specs::Range::within))]
+fn is_in_peak_period(month: u32, hour_ending: u32) -> bool
     ensures { result ≡ peak_period month hour_ending }
 {
-    if is_summer_peak(month, hour_ending) {
-        return true;
-    }
-    is_winter_peak(month, hour_ending)
+    matches!((month, hour_ending), (6..=8, 15..=19) | (1..=2, 8..=9 | 19..=20))
 }
 
-fn is_peak_day(year: u64, month: u64, day: u64) -> bool
-    requires { (year ≤ 2 ^ 32) × (month ≤ 12) × (day < 2 ^ 32) }
-    ensures { result ≡ peak_day year month day }
-{
-    if SATURDAY <= weekday(year, month, day) {
-        return false;
+impl Date {
+    #[tactic(auto, unfolding(crate::specs::Peak::peak_day))]
+    fn is_peak_day(self) -> bool
+        ensures { result ≡ peak_day self.year self.month self.day }
+    {
+        self.weekday() < SATURDAY && !self.is_holiday()
     }
-    !is_holiday(year, month, day)
-}
 
-// The period is tested first: most hours are decided there, without a weekday.
-pub(crate) fn is_peak(year: u64, month: u64, day: u64, hour_ending: u64) -> bool
-    requires { (year ≤ 2 ^ 32) × (day < 2 ^ 32) }
-    ensures { result ≡ peak_hour year month day hour_ending }
-{
-    if in_peak_period(month, hour_ending) {
-        return is_peak_day(year, month, day);
+    // The period is tested first: most hours are decided there, without a weekday.
+    #[tactic(auto, unfolding(crate::specs::Peak::peak_hour))]
+    pub(crate) fn is_peak(self, hour_ending: u32) -> bool
+        ensures { result ≡ peak_hour self.year self.month self.day hour_ending }
+    {
+        is_in_peak_period(self.month, hour_ending) && self.is_peak_day()
     }
-    false
 }

@@ -1,35 +1,28 @@
 // The peak question. `calendar_c` offers it to the controllers' C firmware (include/peak_hour.h).
 ghost use Rattle.std.specs.Prelude.{◌≡◌};
-ghost use Rattle.calendar.specs.Peak.{is_answered, peak_answer};
+ghost use Rattle.calendar.specs.Peak.{is_answered, peak_answer, peak_number};
 
-use crate::gregorian::is_date;
-use crate::peak::is_peak;
-use numbers::range::within;
+use crate::gregorian::Date;
 
-fn is_answered(year: u64, month: u64, day: u64, hour_ending: u64) -> bool
-    ensures { result ≡ is_answered year month day hour_ending }
-{
-    if is_date(year, month, day) {
-        if within(1, 24, hour_ending) {
-            return within(2007, 2100, year);
-        }
+impl Date {
+    #[tactic(auto, unfolding(crate::specs::Peak::is_answered, numbers::specs::Range::within))]
+    fn is_answered(self, hour_ending: u32) -> bool
+        ensures { result ≡ is_answered self.year self.month self.day hour_ending }
+    {
+        self.is_in_calendar() && matches!(hour_ending, 1..=24) && matches!(self.year, 2007..=2100)
     }
-    false
 }
 
-// 1 peak, 0 not, 2 where there is no answer.
-pub fn peak_hour(year: u32, month: u32, day: u32, hour_ending: u32) -> u32
-    ensures { result ≡ peak_answer year month day hour_ending }
+// Whether the hour is peak; None where there is no answer.
+#[tactic(auto, unfolding(crate::specs::Peak::peak_answer, crate::specs::Peak::peak_number))]
+pub fn is_peak_hour(year: u32, month: u32, day: u32, hour_ending: u32) -> Option<bool>
+    ensures { peak_number result ≡ peak_answer year month day hour_ending }
 {
-    let y = year as u64;
-    let m = month as u64;
-    let d = day as u64;
-    let h = hour_ending as u64;
-    if is_answered(y, m, d, h) {
-        if is_peak(y, m, d, h) {
-            return 1;
-        }
-        return 0;
-    }
-    2
+    let date = Date {
+        year: year as u64,
+        month,
+        day,
+    };
+    date.is_answered(hour_ending)
+        .then(|| date.is_peak(hour_ending))
 }

@@ -1,36 +1,39 @@
 // Weekdays and holidays.
-ghost use Rattle.std.specs.Prelude.{◌≡◌, ◌≤◌, ◌<◌, ◌^◌};
+ghost use Rattle.std.specs.Prelude.{◌≡◌, ◌<◌};
 ghost use Rattle.calendar.specs.Week.{weekday, third_monday, is_holiday};
 
-use crate::gregorian::day_number;
+use crate::gregorian::Date;
 
-pub(crate) fn weekday(year: u64, month: u64, day: u64) -> u64
-    requires { (year ≤ 2 ^ 32) × (month ≤ 12) × (day < 2 ^ 32) }
-    ensures { (result ≡ weekday year month day) × (result < 7) }
-{
-    (day_number(year, month, day) + 4) % 7
-}
+impl Date {
+    // From Monday, 0, to Sunday, 6: a number, since a remainder by 7 gives it and it is only compared.
+    #[tactic(auto, unfolding(crate::specs::Week::weekday))]
+    pub(crate) fn weekday(self) -> u64
+        ensures { (result ≡ weekday self.year self.month self.day) × (result < 7) }
+    {
+        (self.day_number() + 4) % 7
+    }
 
-fn third_monday(year: u64, month: u64) -> u64
-    requires { (year ≤ 2 ^ 32) × (month ≤ 12) }
-    ensures { result ≡ third_monday year month }
-{
-    1 + (7 - weekday(year, month, 1)) % 7 + 14
-}
+    // The third Monday of the date's month.
+    #[tactic(auto, unfolding(crate::specs::Week::third_monday, crate::specs::Week::first_monday))]
+    fn third_monday(self) -> u64
+        ensures { result ≡ third_monday self.year self.month }
+    {
+        let first = Date {
+            year: self.year,
+            month: self.month,
+            day: 1,
+        };
+        1 + (7 - first.weekday()) % 7 + 14
+    }
 
-pub(crate) fn is_holiday(year: u64, month: u64, day: u64) -> bool
-    requires { year ≤ 2 ^ 32 }
-    ensures { result ≡ is_holiday year month day }
-{
-    match month {
-        1 => {
-            if day == 1 {
-                return true;
-            }
-            day == third_monday(year, 1)
+    #[tactic(auto, unfolding(crate::specs::Week::is_holiday))]
+    pub(crate) fn is_holiday(self) -> bool
+        ensures { result ≡ is_holiday self.year self.month self.day }
+    {
+        match (self.month, self.day) {
+            (1, 1) | (7, 4) => true,
+            (1..=2, day) => day as u64 == self.third_monday(),
+            _ => false,
         }
-        2 => day == third_monday(year, 2),
-        7 => day == 4,
-        _ => false,
     }
 }

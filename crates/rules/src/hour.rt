@@ -4,7 +4,7 @@
 ghost use Rattle.std.specs.Prelude.{◌≡◌, ◌+◌, ◌≤◌, ◌<◌, ◌^◌, eqb};
 ghost use Rattle.rules.specs.Hours.{derated, hour_index, is_peak, hour_counts, IsKind};
 
-use calendar::delivery_year::{delivery_day, is_delivery_peak};
+use calendar::delivery_year::DeliveryDate;
 use capacity::rating::HourCounts;
 use records::format::HourRecord;
 
@@ -52,17 +52,30 @@ pub(crate) fn is_derated(h: HourRecord) -> bool
     matches!(HourKind::try_from(h.kind), Ok(HourKind::Derated))
 }
 
-// Its index in delivery year y, by day and then hour ending.
+// Its date in a delivery year.
+pub(crate) fn date_of(year: u32, h: HourRecord) -> DeliveryDate
+    ensures year { result.year ≡ year }
+    ensures month { result.month ≡ h.month }
+    ensures day { result.day ≡ h.day }
+{
+    DeliveryDate {
+        year,
+        month: h.month,
+        day: h.day,
+    }
+}
+
+// Its index in a delivery year, by day and then hour ending.
 pub fn hour_index(year: u32, h: HourRecord) -> u64
     ensures { result ≡ hour_index year h }
 {
-    u64::from(delivery_day(year, h.month, h.day)) * 24 + u64::from(h.hour)
+    u64::from(date_of(year, h).day_of_year()) * 24 + u64::from(h.hour)
 }
 
 fn is_peak(year: u32, h: HourRecord) -> bool
     ensures { result ≡ is_peak year h }
 {
-    is_delivery_peak(year, h.month, h.day, h.hour)
+    date_of(year, h).is_peak(h.hour)
 }
 
 // An hour, as SH and FOH count it.

@@ -9,9 +9,9 @@ ghost use Rattle.records.specs.Format.{rate_at, unit_format, fields_fit};
 ghost use Rattle.records.specs.Kinds.{rating_numbers};
 ghost use Rattle.rules.specs.Refusal.{numbers_fit, derating_fits, in_range};
 
-use crate::hour::is_derated;
+use crate::hour::{date_of, is_derated};
 use crate::indices::{AREAS, COMMITMENTS, PARTIES, UNITS};
-use calendar::delivery_year::{delivery_days, is_delivery_date};
+use calendar::delivery_year::delivery_days;
 use capacity::InstalledWatts;
 use capacity::rating::Rating;
 use numbers::range::within;
@@ -93,7 +93,7 @@ pub(crate) fn hour_fits(year: u32, h: HourRecord) -> bool
     is_one_of::<UNITS>(h.unit)
         && within(1, 24, u64::from(h.hour))
         && within(0, 5, u64::from(h.kind))
-        && is_delivery_date(year, h.month, h.day)
+        && date_of(year, h).is_date()
         && derating_fits(h)
 }
 
