@@ -1,29 +1,32 @@
 -- From the number that rows 1 to 10 give to a string's answer.
-use Rattle.std.proofs.Common.{◌≡◌, refl, sym, ap, ◌∙◌, Bool, true, false, cond, List, ℕ, suc, arith, eqb, get_or, set, ne_eqb}
+use Rattle.std.proofs.Common.{◌≡◌, refl, sym, ap, ◌∙◌, Bool, true, false, cond, List, ℕ, suc, Result, Ok, Err, arith, eqb, get_or, set, ne_eqb}
+use Rattle.std.specs.Result.{IsErrAnd, is_err}
 use Rattle.numbers.specs.Lists.{element}
 use Rattle.money.specs.declared.Cents.{Cents}
-use Rattle.records.specs.declared.format.HourRecord.{HourRecord}
+use Rattle.records.specs.declared.format.Fault.{Fault}
 use Rattle.records.specs.declared.format.Record.{Record}
 use Rattle.records.specs.declared.format.Record.TheVariants.{Hour, Post}
 use Rattle.records.specs.Format.{post_format}
-use Rattle.records.specs.Kinds.{numbers_of, is_of}
+use Rattle.records.specs.Kinds.{Decoded, numbers_of, is_of}
 use Rattle.records.specs.Decoded.{decoded}
 use Rattle.rules.specs.declared.refusal.Asked.{Asked}
-use Rattle.rules.specs.Refusal.{has_fault, no_year, second_year, out_of_range, not_entered, second_unit, derated_out, not_later, row, refusal_of}
+use Rattle.rules.specs.declared.refusal.Refusal.{Refusal}
+use Rattle.rules.specs.declared.refusal.Refusal.TheVariants.{Broken, UnknownTag, WrongLength, NoYear, SecondYear, OutOfRange, NotEntered, SecondUnit, DeratedOut, NotLater, Undistributed}
+use Rattle.rules.specs.Refusal.{has_fault, no_year, second_year, out_of_range, not_entered, second_unit, derated_out, not_later, row, refusal_of, row_number, number_of, IsRow}
 use Rattle.rules.specs.Facts.{no_area}
 use Rattle.rules.specs.Dues.{undistributed_in}
 use Rattle.rules.specs.Rules.{area_index, unit_index, area_named, unit_named, post_undistributed, asked_of, asked, refusal}
+use Rattle.rules.proofs.AcceptedRows.{fault_row}
 use Rattle.book.specs.declared.Unit as unit
 use Rattle.book.specs.declared.Book.{Book}
-use Rattle.book.specs.declared.Answer.{Answer}
 use Rattle.book.specs.Books.{no_entry, facts_of_book, Sound}
-use Rattle.book.specs.Entered.{with_hour, posted_after, after, no_lines, post_lines, lines_of, answer, entered}
+use Rattle.book.specs.Entered.{Answer, with_hour, posted_after, after, no_lines, post_lines, lines_of, answer, answered, entered}
 use Rattle.book.specs.Steps.{with_posted, post_answer}
 use Rattle.book.proofs.AreaMoney.{due_most_lem}
 use Rattle.book.proofs.Soundness.{entered_sound}
 
 -- what rows 1 to 10 ask of those that a record names
-abbrev pub before : Book → Record → Asked
+abbrev pub before : Book → Decoded → Asked
 before b r =
     let u : unit.Unit = get_or b.units (unit_named r) no_entry in
     asked_of b.year (get_or b.areas (area_named r) no_area) u.entry u.last false
@@ -37,7 +40,7 @@ row_before n true e = record { is = rw (ne_eqb (suc n) 0 (λ z. omega (arith, z)
 row_before n false e = e
 
 -- row 11 is asked where rows 1 to 10 do not fit
-settled_row : (b : Book) (r : Record)
+settled_row : (b : Book) (r : Decoded)
     → refusal_of (asked (facts_of_book b) r) r ≡ cond (eqb (refusal_of (before b r) r) 0) (cond (post_undistributed (facts_of_book b) r) 11 0) (refusal_of (before b r) r)
 unfolding refusal_of
 settled_row b r =
@@ -60,61 +63,83 @@ settled_row b r =
     last true = record { is = refl }
     last false = record { is = refl }
 
--- the number of what was read at the indices that a record names
-pub number_is : (b : Book) (r : Record) {i j n : ℕ} {a : Asked} → i ≡ area_named r → j ≡ unit_named r
-    → a ≡ asked_of b.year (get_or b.areas i no_area) (get_or b.units j no_entry).entry (get_or b.units j no_entry).last false → n ≡ refusal_of a r
-    → n ≡ refusal_of (before b r) r
-number_is b r i j a e = e ∙ rw (a, i, j)
+-- no row has the number 0
+pub row_is : (x : Refusal) → row_number x ≡ 0 → ⊥
+row_is Broken e = omega arith
+row_is UnknownTag e = omega arith
+row_is WrongLength e = omega arith
+row_is NoYear e = omega arith
+row_is SecondYear e = omega arith
+row_is OutOfRange e = omega arith
+row_is NotEntered e = omega arith
+row_is SecondUnit e = omega arith
+row_is DeratedOut e = omega arith
+row_is NotLater e = omega arith
+row_is Undistributed e = omega arith
+
+pub no_row : (result : Result (Unit {0}) Refusal) → is_err result ≡ false → 0 ≡ number_of result
+no_row (Ok u) e = refl
+no_row (Err x) e = cc
 
 module _ (b : Book) (s : List ℕ) where
-  pub refused : {n : ℕ} {r : Record} {x : Answer} → r ≡ decoded s → n ≡ refusal_of (before b r) r → (n ≡ 0 → ⊥) → x ≡ answer n no_lines b → x ≡ entered b s
-  unfolding entered refusal
-  refused {n} {r} known e ne given =
-      let number : refusal_of (asked (facts_of_book b) (decoded s)) (decoded s) ≡ n
-      = rw (sym known) (settled_row b r ∙ rw (sym e, ne_eqb n 0 ne)) in
-      given ∙ rw (number, ne_eqb n 0 ne)
-
-  -- a record that rows 1 to 10 let pass, and row 11 too
-  pub accepted : {n : ℕ} {ls : List Cents} {r : Record} {b' : Book} → r ≡ decoded s → n ≡ refusal_of (before b r) r → n ≡ 0
-      → post_undistributed (facts_of_book b) r ≡ false → ls ≡ lines_of b r → b' ≡ after b r → answer 0 ls b' ≡ entered b s
-  unfolding entered refusal
-  accepted {n} {ls} {r} {b'} known e passed distributed lines book =
-      let number : refusal_of (asked (facts_of_book b) (decoded s)) (decoded s) ≡ 0
-      = rw (sym known) (settled_row b r ∙ rw (sym e, passed, distributed)) in
-      rw (number, lines, book, known)
-
-  -- a Post that they let pass
-  pub posted : {n p : ℕ} {r : Record} {x : Answer} → r ≡ decoded s → r ≡ Post p → n ≡ refusal_of (before b r) r → n ≡ 0
-      → x ≡ post_answer b (area_index p) → x ≡ entered b s
-  unfolding entered refusal post_answer
-  posted {n} {p} {r} {x} known post e passed given = given ∙ go (undistributed_in (facts_of_book b) (area_index p)) refl
-    where
-      this : decoded s ≡ Post p
-      this = sym known ∙ post
-
-      number : refusal_of (asked (facts_of_book b) (Post p)) (Post p) ≡ cond (undistributed_in (facts_of_book b) (area_index p)) 11 0
-      number = settled_row b (Post p) ∙ rw (sym (ap (λ (q : Record). refusal_of (before b q) q) post) ∙ sym e ∙ passed)
-
-      go : (t : Bool) → undistributed_in (facts_of_book b) (area_index p) ≡ t
-          → cond t (answer 11 no_lines b) (answer 0 (post_lines b (area_index p)) (with_posted b (posted_after b (area_index p))))
-          ≡ cond (eqb (refusal_of (asked (facts_of_book b) (decoded s)) (decoded s)) 0) (answer 0 (lines_of b (decoded s)) (after b (decoded s)))
-          (answer (refusal_of (asked (facts_of_book b) (decoded s)) (decoded s)) no_lines b)
-      go true q = rw (this, number, q)
-      go false q = rw (this, number, q)
-
   -- the book after it is sound
   pub sound_answer : Sound b → {x : Answer} → x ≡ entered b s → (x ≡ entered b s) × Sound x.book
   sound_answer sound e = (e, rw e (entered_sound b s sound (due_most_lem b sound)))
 
-  -- a record that was read, ruled on, matched and stored
-  pub stored_as : Sound b → {i j n : ℕ} {a : Asked} {r r' : Record} {x : Answer} {b' : Book} → r ≡ decoded s → i ≡ area_named r → j ≡ unit_named r
-      → a ≡ asked_of b.year (get_or b.areas i no_area) (get_or b.units j no_entry).entry (get_or b.units j no_entry).last false → n ≡ refusal_of a r
-      → n ≡ 0 → r ≡ r' → is_of post_format r' ≡ false → x ≡ answer 0 no_lines b' → b' ≡ after b r' → (x ≡ entered b s) × Sound x.book
-  stored_as sound {r = r} known area unit asks rows passed match other given book =
-      let number = number_is b r area unit asks rows ∙ ap (λ (q : Record). refusal_of (before b q) q) match in
-      sound_answer sound (given ∙ accepted (sym match ∙ known) number passed (rw other) (rw other) book)
+  refused : (r : Decoded) (x : Refusal) → r ≡ decoded s → row_number x ≡ refusal_of (before b r) r → answer (row_number x) no_lines b ≡ entered b s
+  unfolding entered refusal
+  refused r x known e =
+      let number : refusal_of (asked (facts_of_book b) (decoded s)) (decoded s) ≡ row_number x
+      = rw (sym known) (settled_row b r ∙ rw (sym e, ne_eqb _ 0 (row_is x))) in
+      rw (number, ne_eqb _ 0 (row_is x))
 
--- what `hours` stores, as `after` has it
-pub stored_hour : (b : Book) (r : HourRecord) {j : ℕ} {u : unit.Unit} → j ≡ unit_index r.unit → u ≡ with_hour b.year (get_or b.units j no_entry) r
-    → record { year = b.year; areas = b.areas; units = set b.units j u; commitments = b.commitments; obligations = b.obligations; posted = b.posted } ≡ after b (Hour r)
-stored_hour b r e counted = rw (counted, e)
+  -- rows 1 to 3 refuse it
+  pub faulty : (f : Fault) (result : Result (List Cents) Refusal) → Err f ≡ decoded s → IsErrAnd result (IsRow f) → answered result b ≡ entered b s
+  faulty f (Ok lines) known e = absurd e
+  faulty f (Err x) known e = refused (Err f) x known (e ∙ fault_row (before b (Err f)) f)
+
+  -- a record, and what was read at the indices that it names
+  module _ {r : Record} (known : Ok r ≡ decoded s) {i j : ℕ} (area : i ≡ area_named (Ok r)) (unit : j ≡ unit_named (Ok r)) {a : Asked}
+      (read : a ≡ asked_of b.year (get_or b.areas i no_area) (get_or b.units j no_entry).entry (get_or b.units j no_entry).last false) where
+    number_is : {n : ℕ} → n ≡ refusal_of a (Ok r) → n ≡ refusal_of (before b (Ok r)) (Ok r)
+    number_is e = e ∙ rw (read, area, unit)
+
+    -- rows 4 to 10 refuse it
+    unadmitted : (x : Refusal) → row_number x ≡ refusal_of a (Ok r) → answer (row_number x) no_lines b ≡ entered b s
+    unadmitted x e = refused (Ok r) x known (number_is e)
+
+    pub returned : (x : Refusal) (result : Result (List Cents) Refusal) → row_number x ≡ refusal_of a (Ok r) → IsErrAnd result (λ y. y ≡ x)
+        → answered result b ≡ entered b s
+    returned x (Ok lines) e is = absurd is
+    returned x (Err y) e is = rw is (unadmitted x e)
+
+    pub not_taken : (result : Result (Unit {0}) Refusal) → number_of result ≡ refusal_of a (Ok r) → is_err result ≡ true → eqb (entered b s).number 0 ≡ false
+    not_taken (Ok u) e q = cc
+    not_taken (Err x) e q = rw (sym (ap (λ (y : Answer). y.number) (unadmitted x e))) (ne_eqb _ 0 (row_is x))
+
+    -- they let it pass, and row 11 too
+    pub accepted : {b' : Book} → 0 ≡ refusal_of a (Ok r) → is_of post_format (Ok r) ≡ false → b' ≡ after b (Ok r) → answer 0 no_lines b' ≡ entered b s
+    unfolding entered refusal
+    accepted passed other book =
+        let number : refusal_of (asked (facts_of_book b) (decoded s)) (decoded s) ≡ 0
+        = rw (sym known) (settled_row b (Ok r) ∙ rw (sym (number_is passed), other)) in
+        let lines : no_lines ≡ lines_of b (Ok r) = rw other in
+        rw (number, ← known, book) (ap (λ (ls : List Cents). answer 0 ls (after b (Ok r))) lines)
+
+    -- they let a Post pass
+    pub posted : {p : ℕ} {x : Answer} → r ≡ Post p → 0 ≡ refusal_of a (Ok r) → x ≡ post_answer b (area_index p) → x ≡ entered b s
+    unfolding entered refusal post_answer
+    posted {p} {x} post passed given = given ∙ go (undistributed_in (facts_of_book b) (area_index p)) refl
+      where
+        this : decoded s ≡ Ok (Post p)
+        this = sym known ∙ ap (λ (q : Record). Ok q) post
+
+        number : refusal_of (asked (facts_of_book b) (Ok (Post p))) (Ok (Post p)) ≡ cond (undistributed_in (facts_of_book b) (area_index p)) 11 0
+        number = settled_row b (Ok (Post p)) ∙ rw (sym (ap (λ (q : Record). refusal_of (before b (Ok q)) (Ok q)) post) ∙ sym (number_is passed))
+
+        go : (t : Bool) → undistributed_in (facts_of_book b) (area_index p) ≡ t
+            → cond t (answer 11 no_lines b) (answer 0 (post_lines b (area_index p)) (with_posted b (posted_after b (area_index p))))
+            ≡ cond (eqb (refusal_of (asked (facts_of_book b) (decoded s)) (decoded s)) 0) (answer 0 (lines_of b (decoded s)) (after b (decoded s)))
+            (answer (refusal_of (asked (facts_of_book b) (decoded s)) (decoded s)) no_lines b)
+        go true q = rw (this, number, q)
+        go false q = rw (this, number, q)

@@ -1,6 +1,7 @@
 -- An area's money in a sound book: it is in the ranges of `capacity` and `money`, so that each answer is what 01 defines.
-use Rattle.std.proofs.Common.{◌≡◌, refl, ap, ◌∙◌, Bool, true, false, cond, List, ℕ, ◌/◌, ◌%◌, ◌≤◌, ◌<◌, zero-le, le_refl, mod-lt, arith, ℤ, pos}
-use Rattle.std.proofs.Common.{nat_abs, eqb, ltb, get_or, le-leb}
+use Rattle.std.proofs.Common.{◌≡◌, refl, ap, ◌∙◌, Bool, true, false, cond, List, [], ℕ, ◌/◌, ◌%◌, ◌≤◌, ◌<◌, zero-le, le_refl, mod-lt, arith, ℤ, pos}
+use Rattle.std.proofs.Common.{nat_abs, get_or, set, le-leb}
+use Rattle.std.proofs.lemmas.List.{get_or_default}
 use Rattle.numbers.specs.Lists.{list_below, element}
 use Rattle.numbers.proofs.Tests.{within_to}
 use Rattle.numbers.proofs.Sums.{sum_bounded}
@@ -15,23 +16,16 @@ use Rattle.money.specs.AreaMoney.{due_most, area_in_range, settled, money_answer
 use Rattle.money.specs.Lines.{line, line_answer, lines_answer}
 use Rattle.money.proofs.Bounds.{due_bound}
 use Rattle.money.proofs.Sixteen.{range_same, settled_same}
-use Rattle.records.specs.Format.{party_count}
+use Rattle.records.specs.Format.{area_count, party_count}
 use Rattle.rules.specs.Facts.{Facts}
 use Rattle.rules.specs.Dues.{days, net_in, due_in, undistributed_in, settled_in}
 use Rattle.book.specs.declared.Book.{Book}
-use Rattle.book.specs.Books.{pair_count, area_party, obligation_in, posted_in, facts_of_book, Sound}
+use Rattle.book.specs.Books.{no_obligations, no_sums, posted_in, facts_of_book, Sound}
 use Rattle.book.specs.Entered.{post_lines, posted_after}
 use Rattle.book.proofs.AreaNets.{element_of, watts_at, days_in_range, nets_in_range}
 
 cents_at : (f : ℕ → ℤ) {l : List Cents} → l ≡ list_below party_count (λ p. cents (f p)) → (p : ℕ) → p < party_count → cents_of l p ≡ f p
 cents_at f e p h = ap (λ (c : Cents). c.0) (element_of (λ q. cents (f q)) e p (cents (pos 0)) h)
-
-obligation_most : (l : List ℕ) (a : ℕ) → ((k : ℕ) → get_or l k 0 ≤ 100000000) → (p : ℕ) → obligation_in l a p ≤ 100000000
-obligation_most l a each p = go (ltb p party_count)
-  where
-    go : (t : Bool) → cond t (get_or l (area_party a p) 0) 0 ≤ 100000000
-    go true = each (area_party a p)
-    go false = zero-le
 
 -- what a settled area holds
 settled_is : (F : Facts) (a : ℕ) → settled (net_in F a) (F.area a).price (days F) (F.obligation a) ≡ settled_in F a
@@ -48,7 +42,7 @@ module _ (b : Book) where
       simp (
         le-leb _ _ (s.areas.each a),
         le-leb _ _ (within_to 365 366 (delivery_days b.year) (days_in_range b.year)),
-        le-leb _ _ (sum_bounded party_count party_count 100000000 (F.obligation a) (le_refl party_count) (obligation_most b.obligations a s.obligations.each)),
+        le-leb _ _ (sum_bounded party_count party_count 100000000 (F.obligation a) (le_refl party_count) (s.obligations.each a).each),
         nets_in_range b s a,
       )
 
@@ -56,11 +50,11 @@ module _ (b : Book) where
   unfolding due_in
   due_most_lem s a p h = due_bound (net_in F a) (F.area a).price (delivery_days b.year) (F.obligation a) p h (area_range s a)
 
-  pub money_settled : Sound b → (a : ℕ) → {nets : List UnforcedWatts} {os : List ℕ} {n : ℕ} {m : AreaMoney}
-      → nets ≡ list_below party_count (λ p. unforced_watts (net_in F a p)) → os ≡ list_below party_count (obligation_in b.obligations a) → n ≡ days F
+  pub money_settled : Sound b → (a : ℕ) → a < area_count → {nets : List UnforcedWatts} {os : List ℕ} {n : ℕ} {m : AreaMoney}
+      → nets ≡ list_below party_count (λ p. unforced_watts (net_in F a p)) → os ≡ list_below party_count (element (get_or b.obligations a [])) → n ≡ days F
       → m ≡ money_answer nets (F.area a).price n os → m ≡ settled_in F a
   unfolding money_answer
-  money_settled s a {nets} {os} e eo en given =
+  money_settled s a inside {nets} {os} e eo en given =
       given ∙ ap (λ (n : ℕ). money_answer nets price n os) en
       ∙ simp (range_same (watts_of nets) (net_in F a) price (days F) (element os) (F.obligation a) nets_are loads_are, area_range s a)
       (settled_same (watts_of nets) (net_in F a) price (days F) (element os) (F.obligation a) nets_are loads_are)
@@ -73,23 +67,23 @@ module _ (b : Book) where
       nets_are = watts_at (net_in F a) e
 
       loads_are : (p : ℕ) → p < party_count → element os p ≡ F.obligation a p
-      loads_are p h = element_of (obligation_in b.obligations a) eo p 0 h
+      loads_are p h =
+          element_of (element (get_or b.obligations a [])) eo p 0 h
+          ∙ ap (λ (l : List ℕ). element l p) (get_or_default b.obligations a [] no_obligations (rw s.obligations.long inside))
 
   -- no line meets the guard of `money`
   line_posted : Sound b → (a p : ℕ) → p < party_count → line_answer (due_in F a p) (posted_in b.posted a p) ≡ line (due_in F a p) (posted_in b.posted a p)
   unfolding line_answer
-  line_posted s a p h = simp (le-leb _ _ (due_most_lem s a p h), le-leb _ _ (s.posted.each (area_party a p)))
+  line_posted s a p h = simp (le-leb _ _ (due_most_lem s a p h), le-leb _ _ ((s.posted.each a).each p))
 
-  pub lines_posted : Sound b → (a : ℕ) → {dues earlier : List Cents} → dues ≡ list_below party_count (λ p. cents (due_in F a p))
-      → earlier ≡ list_below party_count (λ p. cents (posted_in b.posted a p)) → lines_answer dues earlier ≡ post_lines b a
+  pub lines_posted : Sound b → (a : ℕ) → a < area_count → {dues earlier : List Cents} → dues ≡ list_below party_count (λ p. cents (due_in F a p))
+      → earlier ≡ get_or b.posted a [] → lines_answer dues earlier ≡ post_lines b a
   unfolding lines_answer post_lines
-  lines_posted s a e ee =
-      list_same party_count _ _ (λ p h. ap cents (rw (cents_at (due_in F a) e p h, cents_at (posted_in b.posted a) ee p h) (line_posted s a p h)))
+  lines_posted s a inside e ee =
+      list_same party_count _ _
+      (λ p h. ap cents (rw (cents_at (due_in F a) e p h, ee, get_or_default b.posted a [] no_sums (rw s.posted.long inside)) (line_posted s a p h)))
 
   -- the posted sums after a post, by its dues
-  pub posted_after_lem : (a : ℕ) {dues : List Cents} → dues ≡ list_below party_count (λ p. cents (due_in F a p))
-      → list_below pair_count (λ k. cond (eqb (k / party_count) a) (get_or dues (k % party_count) (cents (pos 0))) (get_or b.posted k (cents (pos 0)))) ≡ posted_after b a
+  pub posted_after_lem : (a : ℕ) {dues : List Cents} → dues ≡ list_below party_count (λ p. cents (due_in F a p)) → set b.posted a dues ≡ posted_after b a
   unfolding posted_after
-  posted_after_lem a e =
-      list_same pair_count _ _ (λ k h. ap (λ (c : Cents). cond (eqb (k / party_count) a) c (get_or b.posted k (cents (pos 0))))
-      (element_of (λ p. cents (due_in F a p)) e (k % party_count) (cents (pos 0)) (mod-lt k (omega arith))))
+  posted_after_lem a e = rw e

@@ -1,6 +1,6 @@
 -- An area's nets unit by unit: each unit's share is one split, and in a sound book no guard of `capacity` is met.
 use Rattle.std.proofs.Common.{◌≡◌, refl, sym, ap, ◌∙◌, Bool, true, false, cond, List, ◌⊎◌, inl, inr, ℕ, ◌+◌, ◌-◌, ◌*◌, ◌≤◌, ◌<◌, zero-le, le_refl}
-use Rattle.std.proofs.Common.{le_trans, add-one, arith, ℤ, pos, nat_abs, ◌+ℤ◌, eqb, length, get_or, ext_get_or, eqb-true, eq-eqb, le-leb}
+use Rattle.std.proofs.Common.{le_trans, add-one, arith, ℤ, pos, nat_abs, ◌+ℤ◌, eqb, length, get_or, set, length-set, ext_get_or, eqb-true, eq-eqb, ne_eqb, le-leb}
 use lib.IntN.{+ℤ_idr}
 use Rattle.numbers.specs.Sum.{sum_below}
 use Rattle.numbers.specs.Range.{within}
@@ -17,7 +17,7 @@ use Rattle.calendar.specs.DeliveryYear.{delivery_days}
 use Rattle.capacity.specs.declared.UnforcedWatts.{UnforcedWatts}
 use Rattle.capacity.specs.Quantities.{unforced_watts, watts_of}
 use Rattle.capacity.specs.Shortfall.{installed_most, hours_most, watt_days_most, watt_days, part_of, watt_days_of, limited_shortfall, rates_in_range, hours_in_range}
-use Rattle.capacity.specs.Shortfall.{unit_in_range, year_in_range}
+use Rattle.capacity.specs.Shortfall.{unit_in_range, year_in_range, watt_days_answer}
 use Rattle.capacity.specs.Shares.{unit_share, net, shares_answer, net_with, nets_answer}
 use Rattle.capacity.proofs.Capacities.{limited_shortfall_size}
 use Rattle.capacity.proofs.Bounds.{shortfalls_bound, excesses_bound, net_steps}
@@ -26,12 +26,13 @@ use Rattle.money.specs.AreaMoney.{watts_in_range}
 use Rattle.records.specs.declared.format.CommitmentRecord.{CommitmentRecord}
 use Rattle.records.specs.Format.{unit_count, commitment_count, party_count}
 use Rattle.rules.specs.Facts.{Facts}
+use Rattle.rules.specs.Rules.{party_index}
 use Rattle.rules.specs.Dues.{days, watt_days_for, part_for, share_in, net_in}
 use Rattle.book.specs.declared.Unit.{Unit}
 use Rattle.book.specs.declared.Book.{Book}
 use Rattle.book.specs.Books.{no_entry, commitment_in, facts_of_book, SoundUnit, SoundCommitments, Sound}
-use Rattle.book.specs.Steps.{part_most, commitment_part, nets_with}
-use Rattle.book.proofs.Ranges.{watt_days_most_lem, part_most_lem}
+use Rattle.book.specs.Steps.{part_most, commitment_part}
+use Rattle.book.proofs.Ranges.{watt_days_most_lem, part_most_lem, other_unit, own_part}
 
 -- an element of an array that was filled
 pub element_of : {A : Type 0} (f : ℕ → A) {l : List A} → l ≡ list_below party_count f → (k : ℕ) (d : A) → k < party_count → get_or l k d ≡ f k
@@ -172,24 +173,18 @@ module _ (b : Book) where
   abbrev pub nets_of : ℕ → ℕ → List UnforcedWatts
   nets_of a k = list_below party_count (λ p. unforced_watts (net k (share_in F a) p))
 
-  -- an area's nets with unit k
-  pub nets_step : Sound b → (a k : ℕ) → k < unit_count → {nets more : List UnforcedWatts} {days : ℕ} → nets ≡ nets_of a k → days ≡ delivery_days b.year
-      → more ≡ nets_with nets (get_or b.units k no_entry) k b.commitments a days → more ≡ nets_of a (k + 1)
-  unfolding nets_with nets_answer
-  nets_step sound a k few {nets} e known given =
-      given ∙ ap (nets_with nets (get_or b.units k no_entry) k b.commitments a) known ∙ go (eqb (F.unit k).area (a + 1)) refl
-    where
-      read : (p : ℕ) → p < party_count → watts_of nets p ≡ net k (share_in F a) p
-      read = watts_at (net k (share_in F a)) e
+  -- an area's nets with one unit more: of another area, and of this
+  module _ (sound : Sound b) (a k : ℕ) (few : k < unit_count) {nets : List UnforcedWatts} (e : nets ≡ nets_of a k) where
+    pub nets_same : ((F.unit k).area ≡ a + 1 → ⊥) → nets ≡ nets_of a (k + 1)
+    nets_same ne = e ∙ list_same party_count _ _ (λ p h. ap unforced_watts (sym (net_unchanged F a k p (ne_eqb _ _ ne))))
 
-      shares : List UnforcedWatts
-      shares = shares_answer (F.unit k).rating (F.hours k) (list_below party_count (part k)) (days F)
-
-      go : (t : Bool) → eqb (F.unit k).area (a + 1) ≡ t → cond t (nets_answer nets shares) nets ≡ nets_of a (k + 1)
-      go true q =
-          list_same party_count _ _ (λ p h. ap unforced_watts (
-          rw (read p h, shares_of_unit sound a k p h (eqb-true _ _ q)) (net_one_more sound a k p few h)))
-      go false q = e ∙ list_same party_count _ _ (λ p h. ap unforced_watts (sym (net_unchanged F a k p q)))
+    pub nets_more : (F.unit k).area ≡ a + 1 → {parts : List ℕ} {shares more : List UnforcedWatts} {days : ℕ} → parts ≡ list_below party_count (part k)
+        → days ≡ delivery_days b.year → shares ≡ shares_answer (F.unit k).rating (F.hours k) parts days → more ≡ nets_answer nets shares → more ≡ nets_of a (k + 1)
+    unfolding nets_answer
+    nets_more own parts_are days_are shares_are given =
+        given
+        ∙ list_same party_count _ _ (λ p h. ap unforced_watts (
+        rw (watts_at (net k (share_in F a)) e p h, shares_are, parts_are, days_are, shares_of_unit sound a k p h own) (net_one_more sound a k p few h)))
 
   -- no unit's nets, and all units'
   pub nets_none : (a : ℕ) → list_below party_count (λ p. unforced_watts (pos 0)) ≡ nets_of a 0
@@ -213,14 +208,25 @@ module _ {cs : List CommitmentRecord} {u : ℕ} where
   parts_none = record { inside = omega arith; long = length_below party_count (λ p. 0); each = λ p h. element_below party_count (λ q. 0) p 0 h }
 
   module _ {parts : List ℕ} {k : ℕ} (known : PartsOf cs u parts k) where
+    -- a sum with one commitment more fits
     pub parts_small : SoundCommitments cs → k < commitment_count → (p : ℕ) → p < party_count → element parts p ≤ 63 * part_most
     parts_small sound few p h = rw (known.each p h) (sum_bounded k 63 part_most _ (omega arith) (λ j. part_most_lem (commitment_in cs j) u p (sound j)))
 
-    pub parts_more : {more : List ℕ} → k < commitment_count
-        → (length more ≡ party_count) × ((p : ℕ) → p < party_count → element more p ≡ element parts p + commitment_part (commitment_in cs k) u p)
-        → PartsOf cs u more (k + 1)
-    parts_more few (long, step) =
+    parts_more : {more : List ℕ} → k < commitment_count → length more ≡ party_count
+        → ((p : ℕ) → p < party_count → element more p ≡ element parts p + commitment_part (commitment_in cs k) u p) → PartsOf cs u more (k + 1)
+    parts_more few long step =
         record { inside = omega arith; long = long; each = λ p h. step p h ∙ rw (known.each p h) (sym (sum_one_more k _)) }
+
+    -- another unit's commitment adds nothing, one of its own to its party's part
+    pub parts_same : k < commitment_count → ((commitment_in cs k).unit ≡ u + 1 → ⊥) → PartsOf cs u parts (k + 1)
+    parts_same few ne = parts_more few known.long (λ p h. omega (arith, other_unit (commitment_in cs k) u p ne))
+
+    pub parts_stored : SoundCommitments cs → k < commitment_count → (commitment_in cs k).unit ≡ u + 1 → {q days : ℕ} → q ≡ party_index (commitment_in cs k).party
+        → q < party_count → days ≡ watt_days_answer (commitment_in cs k).watts (commitment_in cs k).first (commitment_in cs k).last
+        → PartsOf cs u (set parts q (element parts q + days)) (k + 1)
+    parts_stored sound few own {q} {days} named inside known_days =
+        parts_more few (length-set parts q (element parts q + days) ∙ known.long)
+        (λ p h. own_part (commitment_in cs k) u p (sound k) own parts named (omega (arith, known.long)) known_days)
 
     pub parts_all : commitment_count ≤ k → parts ≡ list_below party_count (part_for (commitment_in cs) u)
     unfolding part_for part_of watt_days_for commitment_part

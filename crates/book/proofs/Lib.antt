@@ -2,7 +2,6 @@ pub mod Ranges
 pub mod AreaNets
 pub mod AreaMoney
 pub mod Loops
-pub mod Posting
 pub mod Soundness
 pub mod Answers
 pub mod HourRuns

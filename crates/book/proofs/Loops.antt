@@ -1,23 +1,15 @@
--- Elements of lists that loops read and store.
-use Rattle.std.proofs.Common.{◌≡◌, List, ℕ, ◌<◌, pos, length, get_or, lt-ltb}
-use Rattle.numbers.proofs.Lists.{length_below}
-use Rattle.money.specs.declared.Cents.{Cents}
-use Rattle.money.specs.Quantities.{cents}
-use Rattle.records.specs.Format.{party_count}
+-- The definitions' arrays, as the library makes them, and a book that is known to be a sound one.
+use Rattle.std.proofs.Common.{◌≡◌, refl, List, ◌++◌, ℕ, zero, suc, ◌+◌, arith, add-one, map}
+use Rattle.std.specs.List.{range_with_len}
+use Rattle.std.proofs.lemmas.List.FromFn.{map-range_with_len_more}
+use Rattle.numbers.specs.Lists.{list_below}
 use Rattle.book.specs.declared.Book.{Book}
-use Rattle.book.specs.Books.{area_party, obligation_in, posted_in, Sound}
-use Rattle.book.specs.Entered.{no_lines}
+use Rattle.book.specs.Books.{Sound}
 
--- an area's obligation and posted sum of a party, at their place
-pub obligation_at : (l : List ℕ) (a p : ℕ) {k : ℕ} → p < party_count → k ≡ area_party a p → get_or l k 0 ≡ obligation_in l a p
-obligation_at l a p h e = rw (lt-ltb p party_count h, e)
+pub list_below-is : {A : Type 0} (n : ℕ) (f : ℕ → A) → list_below n f ≡ map f (range_with_len 0 n)
+unfolding list_below
+list_below-is zero f = refl
+list_below-is (suc n) f = rw (list_below-is n f, ← map-range_with_len_more f 0 n n (omega arith), add-one n)
 
-pub posted_at : (l : List Cents) (a p : ℕ) {k : ℕ} → k ≡ area_party a p → get_or l k (cents (pos 0)) ≡ cents (posted_in l a p)
-posted_at l a p e = rw e
-
-pub sixteen : {l : List Cents} → l ≡ no_lines → length l ≡ party_count
-sixteen e = rw e (length_below party_count (λ p. cents (pos 0)))
-
--- a book that is known to be a sound one
 pub sound_of : {b r : Book} → Sound b → r ≡ b → (r ≡ b) × Sound r
 sound_of h e = (e, rw e h)

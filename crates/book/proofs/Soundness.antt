@@ -1,6 +1,6 @@
 -- Every book that strings lead to is sound: the empty book is, and an answer's book is if the book before it was.
 use Rattle.std.proofs.Common.{◌≡◌, refl, ◌∙◌, Bool, true, false, cond, ◌&&◌, List, [], ◌∷◌, inl, inr, ℕ, ◌+◌, ◌*◌, ◌/◌, ◌%◌, ◌≤◌, ◌<◌, add-mul}
-use Rattle.std.proofs.Common.{mod-lt, arith, pos, nat_abs, eqb, leb, get_or, set, length-set, ltb-true, leb-true, leb-false, eqb-true}
+use Rattle.std.proofs.Common.{Ok, arith, pos, nat_abs, eqb, leb, get_or, set, length-set, ltb-true, leb-true, leb-false, eqb-true}
 use Rattle.numbers.specs.Lists.{list_below}
 use Rattle.numbers.proofs.Tests.{within_from, within_to, both_true}
 use Rattle.numbers.proofs.Lists.{length_below, each_made, each_stored}
@@ -12,12 +12,11 @@ use Rattle.money.specs.AreaMoney.{due_most}
 use Rattle.records.specs.declared.format.UnitRecord.{UnitRecord}
 use Rattle.records.specs.declared.format.CommitmentRecord.{CommitmentRecord}
 use Rattle.records.specs.declared.format.HourRecord.{HourRecord}
-use Rattle.records.specs.declared.format.Record.{Record}
 use Rattle.records.specs.declared.format.Record.TheVariants.{Unit, Commitment, Hour}
 use Rattle.records.specs.Format.{area_count, unit_count, commitment_count, party_count, year_format, area_format, unit_format, commitment_format, hour_format}
 use Rattle.records.specs.Format.{load_format, post_format}
 use Rattle.records.specs.Decoded.{decoded}
-use Rattle.records.specs.Kinds.{is_of}
+use Rattle.records.specs.Kinds.{Decoded, is_of}
 use Rattle.rules.specs.Facts.{no_area, no_commitment}
 use Rattle.rules.specs.Hours.{derated, excused, forced_out, hour_index, service_hour, outage_hour, derated_watts, counted, is_peak}
 use Rattle.rules.specs.Refusal.{days_fit, in_range, refusal_of}
@@ -28,7 +27,7 @@ use Rattle.rules.proofs.Fields.{numbers_fit_lem, rule_holds}
 use Rattle.rules.proofs.AcceptedRows.{Accepted, accepted}
 use Rattle.book.specs.declared.Unit as unit
 use Rattle.book.specs.declared.Book.{Book}
-use Rattle.book.specs.Books.{no_entry, facts_of_book, empty_book, pair_count, SoundUnit, SoundCommitment, Array, Sound}
+use Rattle.book.specs.Books.{no_entry, facts_of_book, empty_book, no_obligations, no_sums, SoundUnit, SoundCommitment, Array, Sound}
 use Rattle.book.specs.Entered.{new_unit, with_hour, posted_after, after, entered, book_after}
 use Rattle.book.proofs.AreaNets.{days_in_range}
 
@@ -55,6 +54,19 @@ module _ {A : Type 0} {P : A → Type 0} {d : A} where
   array_stored : {n : ℕ} {l : List A} (i : ℕ) (x : A) → P x → Array n P d l → Array n P d (set l i x)
   array_stored {n} {l} i x new old = record { long = length-set l i x ∙ old.long; each = each_stored P d l i x new old.each }
 
+-- the obligations and the posted sums of an area's parties
+abbrev Obligations : List ℕ → Type 0
+Obligations = Array party_count (λ o. o ≤ 100000000) 0
+
+abbrev Sums : List Cents → Type 0
+Sums = Array party_count (λ (c : Cents). nat_abs c.0 ≤ due_most) (cents (pos 0))
+
+no_obligations_sound : Obligations no_obligations
+no_obligations_sound = array_of party_count (omega arith)
+
+no_sums_sound : Sums no_sums
+no_sums_sound = array_of party_count (omega arith)
+
 pub empty_sound : Sound empty_book
 empty_sound =
     record {
@@ -62,14 +74,14 @@ empty_sound =
       areas = array_of area_count (omega arith);
       units = array_of unit_count no_unit_sound;
       commitments = array_of commitment_count no_commitment_sound;
-      obligations = array_of pair_count (omega arith);
-      posted = array_of pair_count (omega arith);
+      obligations = array_of area_count no_obligations_sound;
+      posted = array_of area_count no_sums_sound;
     }
 
 -- a unit in range, without hours
-new_unit_sound : (y : ℕ) (r : UnitRecord) → in_range y (Unit r) ≡ true → SoundUnit (new_unit r)
+new_unit_sound : (y : ℕ) (r : UnitRecord) → in_range y (Ok (Unit r)) ≡ true → SoundUnit (new_unit r)
 new_unit_sound y r ok =
-    let installed = (numbers_fit_lem y (Unit r) ok).1.1 in
+    let installed = (numbers_fit_lem y (Ok (Unit r)) ok).1.1 in
     record {
       rating =
           record {
@@ -88,15 +100,15 @@ new_unit_sound y r ok =
 days_most : (y : ℕ) → delivery_days y ≤ 366
 days_most y = within_to 365 366 (delivery_days y) (days_in_range y)
 
-commitment_sound : (y : ℕ) (c : CommitmentRecord) → in_range y (Commitment c) ≡ true → SoundCommitment c
+commitment_sound : (y : ℕ) (c : CommitmentRecord) → in_range y (Ok (Commitment c)) ≡ true → SoundCommitment c
 unfolding days_fit
 commitment_sound y c ok =
-    let days = both_true {a = leb c.first c.last} (rule_holds y (Commitment c) ok) in
+    let days = both_true {a = leb c.first c.last} (rule_holds y (Ok (Commitment c)) ok) in
     record {
-      party = inr (numbers_fit_lem y (Commitment c) ok).1.1.0;
+      party = inr (numbers_fit_lem y (Ok (Commitment c)) ok).1.1.0;
       in_order = leb-true c.first c.last days.0;
       last_most = omega (arith, ltb-true c.last (delivery_days y) days.1, days_most y);
-      watts_most = within_to _ _ _ (numbers_fit_lem y (Commitment c) ok).1.1.1.1.1.0;
+      watts_most = within_to _ _ _ (numbers_fit_lem y (Ok (Commitment c)) ok).1.1.1.1.1.0;
     }
 
 -- no kind is in service and in outage
@@ -121,13 +133,13 @@ derated_in_service true kind derating installed e = go (eqb kind derated) refl e
     go false q e = omega arith
 
 -- a unit with an accepted hour more
-with_hour_sound : (y : ℕ) (u : unit.Unit) (h : HourRecord) → SoundUnit u → in_range y (Hour h) ≡ true
+with_hour_sound : (y : ℕ) (u : unit.Unit) (h : HourRecord) → SoundUnit u → in_range y (Ok (Hour h)) ≡ true
     → (eqb h.kind derated && leb u.entry.rating.installed.0 h.derating) ≡ false → leb (hour_index y h) u.last ≡ false → SoundUnit (with_hour y u h)
 unfolding hour_index counted service_hour outage_hour derated_watts
 with_hour_sound y u h s ok not_out later =
     let installed : ℕ = u.entry.rating.installed.0 in
     let service : ℕ = cond (is_peak y h && leb h.kind excused) 1 0 in
-    let ending : h.hour ≤ 24 = within_to _ _ _ (numbers_fit_lem y (Hour h) ok).1.1.1.0 in
+    let ending : h.hour ≤ 24 = within_to _ _ _ (numbers_fit_lem y (Ok (Hour h)) ok).1.1.1.0 in
     record {
       rating = s.rating;
       installed_least = s.installed_least;
@@ -142,27 +154,20 @@ with_hour_sound y u h s ok not_out later =
           );
     }
 
-abbrev SumFits : Cents → Type 0
-SumFits c = nat_abs c.0 ≤ due_most
-
 -- every due of a book is one that its lines may add up to
 abbrev pub DuesFit : Book → Type 0
 DuesFit b = (a p : ℕ) → p < party_count → nat_abs (due_in (facts_of_book b) a p) ≤ due_most
 
 -- the book after an accepted record is sound, field by field
-module _ (b : Book) (r : Record) (s : Sound b) (dues : DuesFit b) (ok : Accepted (asked (facts_of_book b) r) r) where
-  hour_sound : (h : HourRecord) → Accepted (asked (facts_of_book b) (Hour h)) (Hour h)
+module _ (b : Book) (r : Decoded) (s : Sound b) (dues : DuesFit b) (ok : Accepted (asked (facts_of_book b) r) r) where
+  hour_sound : (h : HourRecord) → Accepted (asked (facts_of_book b) (Ok (Hour h))) (Ok (Hour h))
       → SoundUnit (with_hour b.year (get_or b.units (unit_index h.unit) no_entry) h)
   hour_sound h passed = with_hour_sound b.year _ h (s.units.each _) passed.in_range_lem passed.not_out passed.later
 
-  posted_sound : (a : ℕ) → Array pair_count SumFits (cents (pos 0)) (posted_after b a)
+  posted_sound : (a : ℕ) → Array area_count Sums no_sums (posted_after b a)
   unfolding posted_after
   posted_sound a =
-      record { long = length_below pair_count _; each = each_made SumFits (cents (pos 0)) pair_count _ (omega arith) (λ k below. either (eqb (k / party_count) a) k) }
-    where
-      either : (t : Bool) (k : ℕ) → SumFits (cond t (cents (due_in (facts_of_book b) a (k % party_count))) (get_or b.posted k (cents (pos 0))))
-      either true k = dues a (k % party_count) (mod-lt k (omega arith))
-      either false k = s.posted.each k
+      array_stored a _ (record { long = length_below party_count _; each = each_made (λ (c : Cents). nat_abs c.0 ≤ due_most) (cents (pos 0)) party_count _ (omega arith) (dues a) }) s.posted
 
   accepted_sound : Sound (after b r)
   accepted_sound =
@@ -178,13 +183,13 @@ module _ (b : Book) (r : Record) (s : Sound b) (dues : DuesFit b) (ok : Accepted
             chosen (Array commitment_count SoundCommitment no_commitment) (is_of commitment_format r)
             (λ q. array_stored _ _ (commitment_sound b.year _ (as_made (facts_of_book b) r ok commitment_format tt q).in_range_lem) s.commitments) s.commitments;
         obligations =
-            chosen (Array pair_count _ 0) (is_of load_format r)
-            (λ q. array_stored _ _ (within_to _ _ _ (fit ok load_format tt q).1.1.0) s.obligations) s.obligations;
-        posted = chosen (Array pair_count SumFits (cents (pos 0))) (is_of post_format r) (λ q. posted_sound _) s.posted;
+            chosen (Array area_count Obligations no_obligations) (is_of load_format r)
+            (λ q. array_stored _ _ (array_stored _ _ (within_to _ _ _ (fit ok load_format tt q).1.1.0) (s.obligations.each _)) s.obligations) s.obligations;
+        posted = chosen (Array area_count Sums no_sums) (is_of post_format r) (λ q. posted_sound _) s.posted;
       }
 
 -- the book after a record that no row refuses
-pub after_sound : (b : Book) (r : Record) → Sound b → DuesFit b → refusal_of (asked (facts_of_book b) r) r ≡ 0 → Sound (after b r)
+pub after_sound : (b : Book) (r : Decoded) → Sound b → DuesFit b → refusal_of (asked (facts_of_book b) r) r ≡ 0 → Sound (after b r)
 after_sound b r s dues e = accepted_sound b r s dues (accepted (asked (facts_of_book b) r) r e)
 
 -- the book after any string, refused or not

@@ -1,7 +1,7 @@
 -- What a book holds: its facts, the empty book, and what every book that its own functions made satisfies.
-use Rattle.std.specs.Prelude.{◌≡◌, true, cond, List, ◌⊎◌, ℕ, ◌+◌, ◌*◌, ◌≤◌, ℤ, pos, nat_abs, ltb, length, get_or}
+use Rattle.std.specs.Prelude.{◌≡◌, true, List, ◌⊎◌, ℕ, ◌+◌, ◌*◌, ◌≤◌, ℤ, pos, nat_abs, length, get_or}
 use Rattle.numbers.specs.Range.{within}
-use Rattle.numbers.specs.Lists.{list_below}
+use Rattle.numbers.specs.Lists.{list_below, element}
 use Rattle.capacity.specs.declared.rating.Rating.{Rating}
 use Rattle.capacity.specs.Shortfall.{installed_most, rate_most, commitment_most, hours_most}
 use Rattle.money.specs.declared.Cents.{Cents}
@@ -18,16 +18,16 @@ use Rattle.book.specs.declared.Book.{Book}
 abbrev pub no_entry : Unit
 no_entry = record { entry = no_unit; hours = no_hours; last = 0 }
 
--- arrays by area and then party: how many pairs there are, and the index of one
-abbrev pub pair_count : ℕ
-pair_count = area_count * party_count
+-- an area's parties without obligations, and without lines
+abbrev pub no_obligations : List ℕ
+no_obligations = list_below party_count (λ p. 0)
 
-abbrev pub area_party : ℕ → ℕ → ℕ
-area_party a p = a * party_count + p
+abbrev pub no_sums : List Cents
+no_sums = list_below party_count (λ p. cents (pos 0))
 
--- party p's obligation in area a; past the sixteenth party the index would be the next area's
-abbrev pub obligation_in : List ℕ → ℕ → ℕ → ℕ
-obligation_in l a p = cond (ltb p party_count) (get_or l (area_party a p) 0) 0
+-- party p's obligation in area a
+abbrev pub obligation_in : List (List ℕ) → ℕ → ℕ → ℕ
+obligation_in l a p = element (get_or l a no_obligations) p
 
 -- commitment number k + 1
 abbrev pub commitment_in : List CommitmentRecord → ℕ → CommitmentRecord
@@ -46,8 +46,8 @@ facts_of_book b = record {
 }
 
 -- what the lines of party p in area a so far add up to
-abbrev pub posted_in : List Cents → ℕ → ℕ → ℤ
-posted_in l a p = (get_or l (area_party a p) (cents (pos 0))).0
+abbrev pub posted_in : List (List Cents) → ℕ → ℕ → ℤ
+posted_in l a p = (get_or (get_or l a no_sums) p (cents (pos 0))).0
 
 -- the book with nothing entered
 abbrev pub empty_book : Book
@@ -56,8 +56,8 @@ empty_book = record {
   areas = list_below area_count (λ k. no_area);
   units = list_below unit_count (λ k. no_entry);
   commitments = list_below commitment_count (λ k. no_commitment);
-  obligations = list_below pair_count (λ k. 0);
-  posted = list_below pair_count (λ k. cents (pos 0));
+  obligations = list_below area_count (λ k. no_obligations);
+  posted = list_below area_count (λ k. no_sums);
 }
 
 -- The ranges of 01, Records, and what follows from them for a unit's hours. What is not entered is in them too.
@@ -98,5 +98,5 @@ pub record Sound (b : Book) : Type 0 where
   pub areas : Array area_count (λ (a : AreaRecord). a.price ≤ 50000) no_area b.areas
   pub units : Array unit_count SoundUnit no_entry b.units
   pub commitments : Array commitment_count SoundCommitment no_commitment b.commitments
-  pub obligations : Array pair_count (λ o. o ≤ 100000000) 0 b.obligations
-  pub posted : Array pair_count (λ (c : Cents). nat_abs c.0 ≤ due_most) (cents (pos 0)) b.posted
+  pub obligations : Array area_count (Array party_count (λ o. o ≤ 100000000) 0) no_obligations b.obligations
+  pub posted : Array area_count (Array party_count (λ (c : Cents). nat_abs c.0 ≤ due_most) (cents (pos 0))) no_sums b.posted

@@ -1,23 +1,24 @@
 -- What a string is answered with, and the book after it. 01, Records, Places of refusal, Hours and Area money.
-use Rattle.std.specs.Prelude.{cond, List, [], ◌∷◌, ℕ, ◌/◌, ◌%◌, pos, eqb, get_or, set}
+use Rattle.std.specs.Prelude.{cond, List, [], ◌∷◌, ℕ, pos, eqb, get_or, set, Result, Ok, Err}
 use Rattle.numbers.specs.Lists.{list_below}
 use Rattle.money.specs.declared.Cents.{Cents}
 use Rattle.money.specs.Quantities.{cents}
 use Rattle.money.specs.Lines.{line}
 use Rattle.records.specs.declared.format.UnitRecord.{UnitRecord}
 use Rattle.records.specs.declared.format.HourRecord.{HourRecord}
-use Rattle.records.specs.declared.format.Record.{Record}
+use Rattle.records.specs.declared.format.LoadRecord.{LoadRecord}
 use Rattle.records.specs.Format.{party_count}
 use Rattle.records.specs.Decoded.{decoded}
-use Rattle.records.specs.Kinds.{of_year, of_area, of_unit, of_commitment, of_hour, of_load, of_post}
+use Rattle.records.specs.Kinds.{Decoded, of_year, of_area, of_unit, of_commitment, of_hour, of_load, of_post}
 use Rattle.rules.specs.Hours.{hour_index, counted}
 use Rattle.rules.specs.Facts.{no_hours}
 use Rattle.rules.specs.Dues.{due_in}
+use Rattle.rules.specs.declared.refusal.Refusal.{Refusal}
+use Rattle.rules.specs.Refusal.{number_of}
 use Rattle.rules.specs.Rules.{area_index, unit_index, number_index, party_index, refusal}
 use Rattle.book.specs.declared.Unit as unit
 use Rattle.book.specs.declared.Book.{Book}
-use Rattle.book.specs.declared.Answer.{Answer}
-use Rattle.book.specs.Books.{facts_of_book, empty_book, Sound, no_entry, pair_count, area_party, posted_in}
+use Rattle.book.specs.Books.{facts_of_book, empty_book, Sound, no_entry, no_obligations, posted_in}
 
 -- a unit as it is entered, without hours
 abbrev pub new_unit : UnitRecord → unit.Unit
@@ -27,13 +28,17 @@ new_unit r = record { entry = r; hours = no_hours; last = 0 }
 abbrev pub with_hour : ℕ → unit.Unit → HourRecord → unit.Unit
 with_hour y u h = record { entry = u.entry; hours = counted y u.hours h; last = hour_index y h }
 
--- posted sums after a post of area a: index k is area k / 16's, party k % 16's, and its lines there now add up to its due
-unfoldable pub posted_after : Book → ℕ → List Cents
-posted_after b a =
-    list_below pair_count (λ k. cond (eqb (k / party_count) a) (cents (due_in (facts_of_book b) a (k % party_count))) (get_or b.posted k (cents (pos 0))))
+-- posted sums after a post of area a: each party's lines there now add up to its due
+unfoldable pub posted_after : Book → ℕ → List (List Cents)
+posted_after b a = set b.posted a (list_below party_count (λ p. cents (due_in (facts_of_book b) a p)))
+
+-- obligations after a Load
+abbrev pub obligations_after : Book → LoadRecord → List (List ℕ)
+obligations_after b l =
+    set b.obligations (area_index l.area) (set (get_or b.obligations (area_index l.area) no_obligations) (party_index l.party) l.obligation)
 
 -- the units after an accepted record: a new one, or one with an hour more
-abbrev pub units_after : Book → Record → List unit.Unit
+abbrev pub units_after : Book → Decoded → List unit.Unit
 units_after b r =
     of_unit
     (of_hour b.units (λ h. set b.units (unit_index h.unit) (with_hour b.year (get_or b.units (unit_index h.unit) no_entry) h)) r)
@@ -41,13 +46,13 @@ units_after b r =
     r
 
 -- the book after an accepted record, field by field; rows 1 to 3 accept nothing that is Unframed
-abbrev pub after : Book → Record → Book
+abbrev pub after : Book → Decoded → Book
 after b r = record {
   year = of_year b.year (λ y. y) r;
   areas = of_area b.areas (λ a. set b.areas (area_index a.area) a) r;
   units = units_after b r;
   commitments = of_commitment b.commitments (λ c. set b.commitments (number_index c.number) c) r;
-  obligations = of_load b.obligations (λ l. set b.obligations (area_party (area_index l.area) (party_index l.party)) l.obligation) r;
+  obligations = of_load b.obligations (obligations_after b) r;
   posted = of_post b.posted (λ a. posted_after b (area_index a)) r;
 }
 
@@ -60,11 +65,25 @@ unfoldable pub post_lines : Book → ℕ → List Cents
 post_lines b a = list_below party_count (λ p. cents (line (due_in (facts_of_book b) a p) (posted_in b.posted a p)))
 
 -- only a Post has lines other than zero
-abbrev pub lines_of : Book → Record → List Cents
+abbrev pub lines_of : Book → Decoded → List Cents
 lines_of b r = of_post no_lines (λ a. post_lines b (area_index a)) r
+
+-- what a record is answered with: the number of its refusal or 0, the sixteen lines, and the book after it
+pub record Answer : Type 0 where
+  pub number : ℕ
+  pub lines : List Cents
+  pub book : Book
 
 abbrev pub answer : ℕ → List Cents → Book → Answer
 answer number lines book = record { number = number; lines = lines; book = book }
+
+-- the answer that a result and the book after it are: a refusal has sixteen zero lines
+abbrev pub lines_given : Result (List Cents) Refusal → List Cents
+lines_given (Ok lines) = lines
+lines_given (Err row) = no_lines
+
+abbrev pub answered : Result (List Cents) Refusal → Book → Answer
+answered result book = answer (number_of result) (lines_given result) book
 
 -- A string's answer: the number of its refusal with sixteen zero lines and the same book; where no row fits, 0, the lines of
 -- its kind, and the book after it.

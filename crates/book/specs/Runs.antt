@@ -4,7 +4,6 @@ use Rattle.records.specs.Format.{bytes_of, hour_format}
 use Rattle.records.specs.Decoded.{decoded}
 use Rattle.records.specs.Kinds.{of_hour}
 use Rattle.book.specs.declared.Book.{Book}
-use Rattle.book.specs.declared.Run.{Run}
 use Rattle.book.specs.Entered.{entered}
 
 -- so many bytes has an Hour record
@@ -18,6 +17,11 @@ hour_bytes s from = take hour_length (drop from s)
 -- an Hour record that the book answers with 0
 abbrev pub is_accepted_hour : Book → List ℕ → Bool
 is_accepted_hour b s = of_hour false (λ h. true) (decoded s) && eqb (entered b s).number 0
+
+-- where a run of accepted hours ends, and the book after it
+pub record Run : Type 0 where
+  pub next : ℕ
+  pub book : Book
 
 abbrev pub run : ℕ → Book → Run
 run next book = record { next = next; book = book }

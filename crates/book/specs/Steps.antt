@@ -1,18 +1,13 @@
 -- What the private functions of a post work out, step by step. A reader of the public contracts needs none of it.
 use Rattle.std.specs.Prelude.{cond, List, ℕ, ◌+◌, ◌*◌, eqb}
-use Rattle.numbers.specs.Lists.{list_below}
-use Rattle.capacity.specs.declared.UnforcedWatts.{UnforcedWatts}
 use Rattle.capacity.specs.Shortfall.{commitment_most, watt_days}
-use Rattle.capacity.specs.Shares.{shares_answer, nets_answer}
 use Rattle.money.specs.declared.Cents.{Cents}
 use Rattle.records.specs.declared.format.CommitmentRecord.{CommitmentRecord}
 use Rattle.records.specs.Format.{party_count}
-use Rattle.rules.specs.Dues.{part_for, undistributed_in}
-use Rattle.book.specs.declared.Unit as unit
+use Rattle.rules.specs.Dues.{undistributed_in}
 use Rattle.book.specs.declared.Book.{Book}
-use Rattle.book.specs.declared.Answer.{Answer}
-use Rattle.book.specs.Books.{commitment_in, facts_of_book}
-use Rattle.book.specs.Entered.{posted_after, no_lines, post_lines, answer}
+use Rattle.book.specs.Books.{facts_of_book}
+use Rattle.book.specs.Entered.{Answer, posted_after, no_lines, post_lines, answer}
 
 -- a commitment's watt-days are at most 5,000,000 W on 366 days
 abbrev pub part_most : ℕ
@@ -22,15 +17,8 @@ part_most = commitment_most * 366
 unfoldable pub commitment_part : CommitmentRecord → ℕ → ℕ → ℕ
 commitment_part c u p = cond (eqb c.party (p + 1)) (cond (eqb c.unit (u + 1)) (watt_days c.watts c.first c.last) 0) 0
 
--- an area's nets with unit k's shares, where it is in that area
-unfoldable pub nets_with : List UnforcedWatts → unit.Unit → ℕ → List CommitmentRecord → ℕ → ℕ → List UnforcedWatts
-nets_with nets u k commitments a days =
-    cond (eqb u.entry.area (a + 1))
-    (nets_answer nets (shares_answer u.entry.rating u.hours (list_below party_count (part_for (commitment_in commitments) k)) days))
-    nets
-
 -- a Post changes only the posted sums
-abbrev pub with_posted : Book → List Cents → Book
+abbrev pub with_posted : Book → List (List Cents) → Book
 with_posted b new = record {
   year = b.year;
   areas = b.areas;

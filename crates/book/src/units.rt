@@ -1,48 +1,63 @@
 // A unit: as it is entered, and with an hour more.
 ghost use Rattle.std.specs.Prelude.{◌≡◌};
-ghost use Rattle.rules.specs.Facts.{no_hours};
-ghost use Rattle.book.specs.Books.{SoundUnit};
+ghost use Rattle.book.specs.Books.{no_entry, SoundUnit};
 ghost use Rattle.book.specs.Entered.{new_unit, with_hour};
 
 use crate::Unit;
-use capacity::rating::HourCounts;
+use capacity::InstalledWatts;
+use capacity::rating::{HourCounts, Rating};
 use records::format::{HourRecord, UnitRecord};
-use rules::hour::{derated_watts, hour_index, outage_hour, service_hour};
+use rules::hour::{hour_counts, hour_index};
 
-pub(crate) fn no_hours() -> HourCounts
-    ensures { result ≡ no_hours }
-{
-    HourCounts {
-        service: 0,
-        outage: 0,
-        derated: 0,
+const NO_HOURS: HourCounts = HourCounts {
+    service: 0,
+    outage: 0,
+    derated: 0,
+};
+
+impl Unit {
+    // A unit that is not entered is all zeros: memory is fixed, and the facts are read so.
+    pub(crate) fn none() -> Self
+        ensures { result ≡ no_entry }
+    {
+        Self::new(UnitRecord {
+            unit: 0,
+            area: 0,
+            rating: Rating {
+                installed: InstalledWatts::new(0),
+                eford: 0,
+                eford5: 0,
+                efordyear: 0,
+                class: 0,
+            },
+        })
     }
-}
 
-pub(crate) fn new_unit(r: UnitRecord) -> Unit
-    ensures { result ≡ new_unit r }
-{
-    Unit {
-        entry: r,
-        hours: no_hours(),
-        last: 0,
+    pub(crate) fn new(entry: UnitRecord) -> Self
+        ensures { result ≡ new_unit entry }
+    {
+        Self {
+            entry,
+            hours: NO_HOURS,
+            last: 0,
+        }
     }
-}
 
-// A unit with one accepted hour more.
-pub(crate) fn with_hour(year: u32, u: Unit, h: HourRecord) -> Unit
-    requires { SoundUnit u }
-    ensures { result ≡ with_hour year u h }
-{
-    let entry = u.entry;
-    let c = u.hours;
-    Unit {
-        entry,
-        hours: HourCounts {
-            service: c.service + service_hour(year, h),
-            outage: c.outage + outage_hour(year, h),
-            derated: c.derated + derated_watts(year, h),
-        },
-        last: hour_index(year, h),
+    // With one accepted hour more.
+    pub(crate) fn with_hour(self, year: u32, h: HourRecord) -> Self
+        requires { SoundUnit self }
+        ensures { result ≡ with_hour year self h }
+    {
+        let counts = self.hours;
+        let more = hour_counts(year, h);
+        Self {
+            entry: self.entry,
+            hours: HourCounts {
+                service: counts.service + more.service,
+                outage: counts.outage + more.outage,
+                derated: counts.derated + more.derated,
+            },
+            last: hour_index(year, h),
+        }
     }
 }

@@ -1,44 +1,30 @@
-use Rattle.std.proofs.Common.{ap, ◌∙◌, arith, le-leb}
-use Rattle.records.specs.declared.format.Record.TheVariants.{Hour}
-use Rattle.records.specs.Decoded.{hour_of}
-use Rattle.book.proofs.Answers.{number_is, sound_answer, stored_hour}
-use Rattle.book.proofs.HourRuns.{no_area_lem, twelve, hour_entered, hour_accepted, hour_refused, goes_on, stops, ends}
+use Rattle.std.proofs.Common.{◌≡◌, ◌∙◌, arith, rules}
+use Rattle.std.specs.Slice.Iter.{chunks_exact_rest, chunks_exact_size}
+use Rattle.book.proofs.HourRuns.{all_left, goes_on, stops, ends}
 use Rattle.book.proofs.Book.hours.Goals as goal
 
-pub returns-then-hour-ne0 : goal.returns-then-hour-ne0
-returns-then-hour-ne0 c =
-    let s = c.args.s.now in
-    let b = c.loop-at.self in
-    let at = c.loop-at.at in
-    let read = c.hour_of-h.ensures ∙ ap hour_of (twelve s at) in
-    let number =
-    number_is b (Hour _) no_area_lem c.unit_index-j.ensures.0 c.asked_of.ensures c.hour.ensures in
-    let more = le-leb _ _ c.if-end-at-ge-HOUR_BYTES.true in
-    let other = hour_refused b _ read number c.if-hour-ne0.true in
-    (stops s c.args.self b _ at _ c.loop-at.invariant.0 _ c.end_of-end.ensures more other, c.loop-at.invariant.1)
+pub loop-bytes-init : goal.loop-bytes-init
+loop-bytes-init c =
+    let whole : chunks_exact_rest c.into_iter-bytes-iterator.result ≡ c.args.s.now = search rules in
+    (search rules, tt, search rules, all_left c.args.self.now c.args.s.now whole c.requires)
 
-pub loop-at-preserved : goal.loop-at-preserved
-loop-at-preserved c =
-    let s = c.args.s.now in
-    let b = c.loop-at.self in
-    let at = c.loop-at.at in
-    let index = c.unit_index-j.ensures.0 in
-    let read = c.hour_of-h.ensures ∙ ap hour_of (twelve s at) in
-    let number = number_is b (Hour _) no_area_lem index c.asked_of.ensures c.hour.ensures in
-    let stored = stored_hour b _ index c.with_hour.ensures in
-    let entered = hour_entered b _ read number c.if-hour-ne0.false stored in
-    let more = le-leb _ _ c.if-end-at-ge-HOUR_BYTES.true in
-    let accepted = hour_accepted b _ read number c.if-hour-ne0.false stored in
-    (goes_on s c.args.self b _ at _ c.loop-at.invariant.0 more accepted entered, (sound_answer b _ c.loop-at.invariant.1 entered).1)
+pub loop-bytes-preserved : goal.loop-bytes-preserved
+loop-bytes-preserved c =
+    let step = c.in-Some.ensures.steps in
+    let size : chunks_exact_size c.next.new.self ≡ 12 = step.0 ∙ c.loop-bytes.invariant.2 in
+    let hour = c.enter_hour.ensures in (
+      omega arith,
+      tt,
+      size,
+      goes_on c.loop-bytes.invariant.3 _ _ step.1.0 (step.1.1 ∙ c.loop-bytes.invariant.2) hour.value c.if-not-enter_hour.false hour.book hour.sound,
+    )
 
-pub returns-else-end-at-ge-HOUR_BYTES : goal.returns-else-end-at-ge-HOUR_BYTES
-returns-else-end-at-ge-HOUR_BYTES c =
-    let s = c.args.s.now in
-    let bound = c.end_of-end.ensures in
-    (ends s c.args.self c.loop-at.self _ c.loop-at.at _ c.loop-at.invariant.0 _ bound c.if-end-at-ge-HOUR_BYTES.false, c.loop-at.invariant.1)
+pub returns-in-None-clause-value : goal.returns-in-None-clause-value
+returns-in-None-clause-value c =
+    ends c.loop-bytes.invariant.3 (omega (arith, c.in-None.ensures.steps.1.0, c.loop-bytes.invariant.2))
 
-pub returns-after-loop-at : goal.returns-after-loop-at
-returns-after-loop-at c =
-    let s = c.args.s.now in
-    let bound = c.end_of-end.ensures in
-    (ends s c.args.self c.loop-at.self _ c.loop-at.at _ c.loop-at.invariant.0 _ bound (omega (arith, c.loop-at-test.false)), c.loop-at.invariant.1)
+pub returns-then-not-enter_hour-clause-value : goal.returns-then-not-enter_hour-clause-value
+returns-then-not-enter_hour-clause-value c =
+    let step = c.in-Some.ensures.steps in
+    let hour = c.enter_hour.ensures in
+    stops c.loop-bytes.invariant.3 _ _ step.1.0 (step.1.1 ∙ c.loop-bytes.invariant.2) hour.value c.if-not-enter_hour.true hour.book

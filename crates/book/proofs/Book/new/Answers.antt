@@ -5,4 +5,4 @@ use Rattle.book.proofs.Book.new.Goals as goal
 
 pub returns : goal.returns
 unfolding list_below
-returns c = sound_of empty_sound (simp (c.no_hours.ensures, c.zero-zero.ensures, c.new-nothing.ensures))
+returns c = sound_of empty_sound (simp (c.none.ensures, c.zero.ensures))
