@@ -1,2 +1,0 @@
-pub mod Streams
-pub mod Outcomes

@@ -1,2 +1,1 @@
-pub mod Turns
-pub mod Input
+pub mod Unread
