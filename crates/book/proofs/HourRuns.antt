@@ -1,6 +1,6 @@
 -- A run of hours goes on with each accepted one and stops at the first record that is anything else or is refused.
-use Rattle.std.proofs.Common.{◌≡◌, refl, sym, ap, ◌∙◌, Bool, true, false, cond, Some, None, Ok, List, ℕ, suc, ◌+◌, ◌-◌, ◌/◌, ◌≤◌, ◌<◌, min, arith, eqb, length}
-use Rattle.std.proofs.Common.{◌++◌, take, drop, length-append}
+use Rattle.std.proofs.Common.{◌≡◌, refl, sym, ap, ◌∙◌, Bool, true, false, cond, Some, None, Ok, List, ℕ, suc, ◌+◌, ◌-◌, ◌/◌, ◌<◌, min, arith, eqb, length}
+use Rattle.std.proofs.Common.{◌++◌, drop, length-append}
 use mathlib.Core.Bool.{and-false}
 use Rattle.std.proofs.Math.Seq.{take-append_seam, drop-append_seam}
 use Rattle.std.proofs.lemmas.List.{drop-drop}
@@ -12,8 +12,7 @@ use Rattle.records.specs.Format.{hour_format}
 use Rattle.records.specs.Kinds.{numbers_of, hour_from, is_of, of_hour}
 use Rattle.records.proofs.OneKind.{is_made}
 use Rattle.rules.specs.Rules.{index, area_index}
-use Rattle.book.specs.declared.Book.{Book}
-use Rattle.book.specs.Books.{Sound}
+use Rattle.book.specs.Books.{Book}
 use Rattle.book.specs.Entered.{Answer, no_lines, answer, entered}
 use Rattle.book.specs.Runs.{hour_length, hour_bytes, is_accepted_hour, run, hours_of, hours_between}
 
@@ -52,12 +51,11 @@ hour_left b s q = rw q (sym (and-false (of_hour false (λ h. true) (decoded s)))
 pub record HoursLeft (first : Book) (s : List ℕ) (b : Book) (end : ℕ) (rest : List ℕ) : Type 0 where
   pub rest_is : rest ≡ drop end s
   pub left : hours_of (length rest / hour_length) b s end ≡ hours_between first s 0 (length s)
-  pub sound : Sound b
 
-pub all_left : (b : Book) (s : List ℕ) {rest : List ℕ} → rest ≡ s → Sound b → HoursLeft b s b 0 rest
-all_left b s {rest} e sound =
+pub all_left : (b : Book) (s : List ℕ) {rest : List ℕ} → rest ≡ s → HoursLeft b s b 0 rest
+all_left b s {rest} e =
     let same : length rest / hour_length ≡ (min (length s) (length s) - 0) / hour_length = omega (arith, ap length e) in
-    record { rest_is = e; left = ap (λ (k : ℕ). hours_of k b s 0) same; sound = sound }
+    record { rest_is = e; left = ap (λ (k : ℕ). hours_of k b s 0) same }
 
 module _ {first b : Book} {s : List ℕ} {end : ℕ} {rest : List ℕ} (h : HoursLeft first s b end rest) where
   module _ (x more : List ℕ) (cut : rest ≡ x ++ more) (long : length x ≡ hour_length) where
@@ -71,13 +69,13 @@ module _ {first b : Book} {s : List ℕ} {end : ℕ} {rest : List ℕ} (h : Hour
     count_more : length rest / hour_length ≡ suc (length more / hour_length)
     count_more = rw cut (simp length-append (omega (arith, long)))
 
-    pub goes_on : {b' : Book} {taken : Bool} → taken ≡ is_accepted_hour b x → taken ≡ true → b' ≡ cond taken (entered b x).book b → Sound b'
+    pub goes_on : {b' : Book} {taken : Bool} → taken ≡ is_accepted_hour b x → taken ≡ true → b' ≡ cond taken (entered b x).book b
         → HoursLeft first s b' (end + hour_length) more
     unfolding hours_of
-    goes_on {b'} {taken} is here e sound =
+    goes_on {b'} {taken} is here e =
         let one : hours_of (length rest / hour_length) b s end ≡ hours_of (length more / hour_length) b' s (end + hour_length)
         = rw (e, count_more, read_is, sym is, here) in
-        record { rest_is = rest_more; left = sym one ∙ h.left; sound = sound }
+        record { rest_is = rest_more; left = sym one ∙ h.left }
 
     -- it stops at a record
     pub stops : {b' : Book} {taken : Bool} → taken ≡ is_accepted_hour b x → taken ≡ false → b' ≡ cond taken (entered b x).book b
