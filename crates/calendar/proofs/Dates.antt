@@ -1,12 +1,11 @@
 -- Dates: what being one says, the next one, and their order.
-use Rattle.std.proofs.Common.{◌≡◌, Bool, true, ℕ, ◌+◌, ◌≤◌, ◌<◌, arith}
+use Rattle.std.proofs.Common.{◌≡◌, true, ℕ, ◌+◌, ◌≤◌, ◌<◌, arith}
 use Rattle.std.proofs.lemmas.Bool.Decides.{nat_tests}
-use Rattle.numbers.specs.Sum.{sum_below}
 use Rattle.numbers.specs.Range.{within}
 use Rattle.numbers.proofs.Sums.{sum_one_more, sum_term}
 use Rattle.calendar.specs.Gregorian.{month_days, leap_year, days_of_month, is_date, days_before_year, day_of_year, day_number, Date, is_earlier, next_date}
 use Rattle.calendar.specs.Laws.{day_number_of, is_date_of}
-use Rattle.calendar.proofs.Months.{no_month, month_starts, year_days, year_months, before_january}
+use Rattle.calendar.proofs.Months.{no_month, month_starts, year_months, before_january, with_december}
 use Rattle.calendar.proofs.Years.{year_step, year_grows}
 
 -- what a date in the calendar has
@@ -29,10 +28,6 @@ unfolding is_date next_date within
 next_is_date y m d e =
     grind (arith, nat_tests, date_facts y m d e, month_starts (leap_year y) (m + 1), month_starts (leap_year (y + 1)) 1)
 
-december_last : (leap : Bool) (m : ℕ) → m ≡ 12 → sum_below m (month_days leap) + month_days leap m ≡ year_days leap
-unfolding sum_below
-december_last leap m q = rw q (year_months leap)
-
 pub day_number_steps : (y m d : ℕ) → is_date y m d ≡ true → day_number_of (next_date y m d) ≡ day_number y m d + 1
 unfolding day_number day_of_year next_date
 day_number_steps y m d e =
@@ -43,7 +38,7 @@ day_number_steps y m d e =
       sum_one_more m (month_days (leap_year y)),
       year_step y,
       before_january (leap_year (y + 1)),
-      december_last (leap_year y) m,
+      with_december (leap_year y) m,
     )
 
 -- a date's day is one of its year

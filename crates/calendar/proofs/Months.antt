@@ -1,9 +1,8 @@
--- The months of a year, 0 to 12: computed tests, and what they say of each month.
+-- The days of the months, and of the months before each.
 use Rattle.std.proofs.Common.{◌≡◌, refl, Bool, true, false, cond, ◌&&◌, ℕ, ◌+◌, zero, suc, ◌<◌, ◌≤◌, arith, ltb, eqb}
 use Rattle.std.proofs.lemmas.Bool.Decides.{nat_tests}
 use Rattle.numbers.specs.Sum.{sum_below}
 use Rattle.numbers.specs.Range.{within}
-use Rattle.numbers.proofs.Sums.{sum_grows}
 use Rattle.calendar.specs.Gregorian.{month_days}
 
 pub no_month : (leap : Bool) (m : ℕ) → 12 < m → month_days leap m ≡ 0
@@ -44,22 +43,17 @@ unfolding sum_below month_days within
 before_january true = refl
 before_january false = refl
 
-pub none_before : (leap : Bool) (m : ℕ) → m ≤ 1 → sum_below m (month_days leap) ≡ 0
-none_before leap m h = omega (arith, sum_grows m 1 (month_days leap) h, before_january leap)
-
 pub before_june : (leap : Bool) → sum_below 6 (month_days leap) + 214 ≡ year_days leap
 unfolding sum_below month_days within
 before_june true = refl
 before_june false = refl
 
+pub with_december : (leap : Bool) (m : ℕ) → m ≡ 12 → sum_below m (month_days leap) + month_days leap m ≡ year_days leap
+unfolding sum_below
+with_december leap m e = rw e (year_months leap)
+
 -- after December no month adds a day
 pub all_before : (leap : Bool) (m : ℕ) → 12 < m → sum_below m (month_days leap) ≡ year_days leap
 unfolding sum_below
 all_before leap zero h = absurd (omega arith)
-all_before leap (suc m) h = grind (arith, all_before leap m, no_month leap m, december)
-  where
-    december : m ≡ 12 → sum_below (suc m) (month_days leap) ≡ year_days leap
-    december e = rw e (year_months leap)
-
-pub before_small : (leap : Bool) (m : ℕ) → sum_below m (month_days leap) ≤ 366
-before_small leap m = grind (arith, all_before leap m, sum_grows m 13 (month_days leap), year_months leap, year_small leap)
+all_before leap (suc m) h = grind (arith, all_before leap m, no_month leap m, with_december leap m)

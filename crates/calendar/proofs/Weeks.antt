@@ -1,4 +1,4 @@
--- The third Monday, and the months of the peak periods.
+-- A known weekday, and the third Monday.
 use Rattle.std.proofs.Common.{◌≡◌, refl, ℕ, ◌≤◌, arith}
 use Rattle.numbers.specs.Sum.{sum_below}
 use Rattle.numbers.specs.Range.{within}

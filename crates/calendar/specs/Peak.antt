@@ -33,7 +33,7 @@ is_answered y m d h = is_date y m d && within 1 24 h && within 2007 2100 y
 unfoldable pub peak_answer : ℕ → ℕ → ℕ → ℕ → ℕ
 peak_answer y m d h = cond (is_answered y m d h) (cond (peak_hour y m d h) 1 0) 2
 
--- the number of an answer: no two answers have the same
+-- the number that stands for an answer
 unfoldable pub peak_number : Option Bool → ℕ
 peak_number None = 2
 peak_number (Some is_peak) = cond is_peak 1 0

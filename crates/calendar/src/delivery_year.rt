@@ -12,7 +12,7 @@ pub fn delivery_days(year: u32) -> u32
     365 + is_leap_year(year as u64 + 1) as u32
 }
 
-// A month and a day of a delivery year. They may be no date.
+// A month and a day of a delivery year, as they are asked for: the year may have no such date.
 #[derive(Clone, Copy)]
 pub struct DeliveryDate {
     pub year: u32,
@@ -35,7 +35,7 @@ impl DeliveryDate {
         }
     }
 
-    // Whether the delivery year has this date.
+    // Whether the delivery year has the date.
     #[tactic(auto, unfolding(crate::specs::DeliveryYear::is_delivery_date))]
     pub fn is_date(self) -> bool
         ensures { result ≡ is_delivery_date self.year self.month self.day }
@@ -43,7 +43,7 @@ impl DeliveryDate {
         self.date().is_in_calendar()
     }
 
-    // The day of the delivery year, where day 0 is 1 June; 0 also where it has no such date.
+    // The day of the delivery year, where day 0 is 1 June; 0 also where the year has no such date.
     #[tactic(auto, using(crate::proofs::DeliveryYears::in_year, crate::proofs::DeliveryYears::days_at_most), unfolding(crate::specs::DeliveryYear::delivery_day))]
     pub fn day_of_year(self) -> u32
         ensures { result ≡ delivery_day self.year self.month self.day }
@@ -59,7 +59,7 @@ impl DeliveryDate {
         (self.date().day_number() - first_june.day_number()) as u32
     }
 
-    // Whether the delivery year has this date, and its hour ending hour_ending is peak.
+    // Whether the delivery year has the date, and its hour ending hour_ending is peak.
     #[tactic(auto, unfolding(crate::specs::DeliveryYear::is_delivery_peak))]
     pub fn is_peak(self, hour_ending: u32) -> bool
         ensures { result ≡ is_delivery_peak self.year self.month self.day hour_ending }

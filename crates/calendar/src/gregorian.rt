@@ -1,7 +1,7 @@
 // The Gregorian calendar.
 ghost use Rattle.std.specs.Prelude.{◌≡◌, false, cond, ◌&&◌, ◌≤◌, ◌<◌, ◌^◌, ltb};
 ghost use Rattle.numbers.specs.Sum.{sum_below};
-ghost use Rattle.calendar.specs.Gregorian.{leap_year, month_days, days_of_month, is_date, days_before_year, days_before_month, day_of_year, day_number};
+ghost use Rattle.calendar.specs.Gregorian.{leap_year, month_days, days_of_month, is_date, days_before_year, day_of_year, day_number};
 
 #[tactic(auto, unfolding(crate::specs::Gregorian::leap_year))]
 pub(crate) fn is_leap_year(year: u64) -> bool
@@ -11,7 +11,7 @@ pub(crate) fn is_leap_year(year: u64) -> bool
 }
 
 // The days before each month in a common year.
-#[tactic(auto, using(crate::proofs::Months::none_before, crate::proofs::Months::all_before), unfolding(numbers::specs::Sum::sum_below, crate::specs::Gregorian::month_days, numbers::specs::Range::within))]
+#[tactic(auto, using(crate::proofs::Months::all_before), unfolding(numbers::specs::Sum::sum_below, crate::specs::Gregorian::month_days, numbers::specs::Range::within))]
 fn days_before_month(month: u32) -> u32
     ensures { result ≡ sum_below month (month_days false) }
 {
@@ -76,7 +76,7 @@ impl Date {
         (2 < self.month && is_leap_year(self.year)) as u64
     }
 
-    #[tactic(auto, using(crate::proofs::Months::before_at, crate::proofs::Months::before_small), unfolding(crate::specs::Gregorian::day_of_year))]
+    #[tactic(auto, using(crate::proofs::Months::before_at), unfolding(crate::specs::Gregorian::day_of_year))]
     fn day_of_year(self) -> u64
         ensures { (result ≡ day_of_year self.year self.month self.day) × (result < 2 ^ 33) }
     {

@@ -1,18 +1,15 @@
 -- The records of a buffer, one after another. 01, The ledger program.
-use Rattle.std.specs.Prelude.{◌≡◌, Bool, cond, ◌&&◌, List, [], ◌∷◌, ◌++◌, min, ◌<◌, ℕ, zero, suc, ◌+◌, ◌-◌, ◌/◌, ◌^◌, ◌≤◌, eqb, ltb, leb, length, take, drop}
+use Rattle.std.specs.Prelude.{◌≡◌, Bool, cond, ◌&&◌, List, [], ◌∷◌, ◌++◌, min, ◌<◌, ℕ, zero, suc, ◌+◌, ◌-◌, ◌/◌, ◌^◌, ◌≤◌, eqb, ltb, leb, length, take, drop, Result, Ok, Err}
 use Rattle.records.specs.declared.stream.Next.{Next}
 use Rattle.records.specs.declared.stream.Next.TheVariants.{Whole, Broken, Partial}
 use Rattle.records.specs.Stream.{next_record}
 use Rattle.records.specs.Decoded.{decoded}
 use Rattle.records.specs.Kinds.{of_post}
 use Rattle.book.specs.declared.Book.{Book}
-use Rattle.book.specs.declared.Run.{Run}
-use Rattle.book.specs.Books.{Sound}
+use Rattle.book.specs.Books.{empty_book}
 use Rattle.book.specs.Entered.{entered}
-use Rattle.book.specs.Runs.{hour_length}
-use Rattle.report.specs.declared.pass.Tally.{Tally}
-use Rattle.report.specs.declared.pass.Taken.{Taken}
-use Rattle.report.specs.declared.pass.Pass.{Pass}
+use Rattle.book.specs.Runs.{Run, hours_between, hour_length}
+use Rattle.report.specs.declared.standing.Report.{Report}
 use Rattle.report.specs.declared.pass.Stop.{Stop}
 use Rattle.report.specs.declared.pass.Stop.TheVariants as stop
 use Rattle.report.specs.Printed.{answer_text, end_line, pair_most, lines_most}
@@ -24,9 +21,13 @@ pub record State : Type 0 where
   pub accepted : ℕ
   pub text : List ℕ
 
--- what a tally and its buffer stand for
-abbrev pub state_of : Tally → List ℕ → State
-state_of t out = record { book = t.book; tried = t.tried; accepted = t.accepted; text = take t.used out }
+-- what a report stands for
+abbrev pub state_of : {size : ℕ} → Report size → State
+state_of r = record { book = r.book; tried = r.tried; accepted = r.accepted; text = r.text.items }
+
+-- nothing was entered or tried, and nothing is to be printed
+abbrev pub at_first : State
+at_first = record { book = empty_book; tried = 0; accepted = 0; text = [] }
 
 -- the area of a Post
 abbrev pub post_area : List ℕ → ℕ
@@ -41,17 +42,19 @@ tried r s = record {
   text = r.text ++ answer_text (suc r.tried) (post_area s) (entered r.book s);
 }
 
--- a tally after the hours that `hours` took from a place on, twelve bytes each
-abbrev pub with_hours : Tally → ℕ → Run → Taken
-with_hours t from r = record {
-  tally = record {
-    book = r.book;
-    tried = t.tried + (r.next - from) / hour_length;
-    accepted = t.accepted + (r.next - from) / hour_length;
-    used = t.used;
-  };
-  next = r.next;
+-- the state after the hours that `hours` of the book took, twelve bytes each
+abbrev pub with_hours : State → Run → State
+with_hours r run = record {
+  book = run.book;
+  tried = r.tried + run.next / hour_length;
+  accepted = r.accepted + run.next / hour_length;
+  text = r.text;
 }
+
+-- the accepted hours at the start of s were taken, and that many bytes
+abbrev pub HoursTaken : State → List ℕ → ℕ → State → Type 0
+HoursTaken before s taken after =
+    (taken ≡ (hours_between before.book s 0 (length s)).next) × (after ≡ with_hours before (hours_between before.book s 0 (length s))) × (taken ≤ length s)
 
 -- a pass over a buffer that stopped, and where the record begins that it stopped at
 pub record Stopped : Type 0 where
@@ -61,9 +64,6 @@ pub record Stopped : Type 0 where
 
 abbrev pub stopped : State → ℕ → Stop → Stopped
 stopped r next stop = record { state = r; next = next; stop = stop }
-
-abbrev pub stopped_of : Pass → List ℕ → Stopped
-stopped_of p out = stopped (state_of p.tally out) p.next p.stop
 
 -- the bytes that `ledger` keeps free for one answer and the last line
 abbrev pub room : ℕ
@@ -99,10 +99,6 @@ ended r (b ∷ s) = tried r (b ∷ s)
 unfoldable pub closed : State → List ℕ
 closed r = r.text ++ end_line r.tried r.accepted
 
--- between two records: the book is sound, no more was accepted than tried, and the buffer has room for so many bytes
-abbrev pub Ready : ℕ → Tally → List ℕ → Type 0
-Ready free t out = Sound t.book × (t.accepted ≤ t.tried) × (t.used + free ≤ length out)
-
 -- the room that is left: for an answer and the last line if more may come, for the last line after a broken record
 abbrev pub free : Stop → ℕ
 free stop.Full = 0
@@ -113,39 +109,29 @@ free stop.Broken = pair_most
 abbrev pub Left : ℕ → ℕ → ℕ → List ℕ → Type 0
 Left next counted before s = (next ≤ length s) × (counted + (length s - next) ≤ before + length s)
 
--- a tally whose text was printed
-abbrev pub emptied : Tally → Tally
-emptied t = record { book = t.book; tried = t.tried; accepted = t.accepted; used = 0 }
-
--- the counts of records tried and accepted fit 64 bits with so many more
-unfoldable pub is_countable : ℕ → ℕ → ℕ → Bool
-is_countable tried accepted more = leb accepted tried && ltb (tried + more) (2 ^ 64)
+-- with all of the text printed
+abbrev pub emptied : State → State
+emptied r = record { book = r.book; tried = r.tried; accepted = r.accepted; text = [] }
 
 -- so many records, if the count of records tried fits 64 bits with them; else none
 unfoldable pub countable : ℕ → ℕ → ℕ
 countable tried more = cond (ltb (tried + more) (2 ^ 64)) more 0
 
--- a tally with no more accepted than tried, and no more text than its buffer of so many bytes holds
-abbrev pub held : Tally → ℕ → Tally
-held t size = record { book = t.book; tried = t.tried; accepted = min t.accepted t.tried; used = min t.used size }
+-- What the public functions answer, with a text of so many bytes at most. Where the counts might not fit, no record is tried.
+unfoldable pub pass_answer : ℕ → State → List ℕ → Stopped
+pass_answer size r s = passed size r (take (countable r.tried (length s)) s)
 
--- What the public functions answer. Where the counts might not fit, no record is tried.
-unfoldable pub pass_answer : Tally → List ℕ → List ℕ → Stopped
-pass_answer t s out = passed (length out) (state_of (held t (length out)) out) (take (countable t.tried (length s)) s)
-
--- of a tally that is ready and whose counts fit, the records are tried as they are; what is left
-abbrev pub Leaves : Tally → List ℕ → List ℕ → Pass → List ℕ → Type 0
-Leaves t s out p after =
-    Ready 0 t out → t.tried + length s < 2 ^ 64
-    → (stopped_of p after ≡ passed (length out) (state_of t out) s) × Ready (free p.stop) p.tally after × Left p.next p.tally.tried t.tried s
+-- what is to be printed at the end, if anything
+abbrev pub text_given : {E : Type 0} → Result (Unit {0}) E → List ℕ → List ℕ
+text_given (Ok ok) text = text
+text_given (Err e) text = []
 
 -- Where there is no room for the last line, nothing is printed.
-unfoldable pub close_answer : Tally → List ℕ → List ℕ
-close_answer t out = cond (leb (t.used + pair_most) (length out)) (closed (state_of t out)) []
+unfoldable pub close_answer : ℕ → State → List ℕ
+close_answer size r = cond (leb (length r.text + pair_most) size) (closed r) []
 
 -- What is left of the input is a cut record, and is tried first. Where there is no room for an answer and the last line, or the
 -- counts do not fit, nothing is printed.
-abbrev pub finish_answer : Tally → List ℕ → List ℕ → List ℕ
-finish_answer t [] out = close_answer t out
-finish_answer t (b ∷ s) out =
-    cond (is_countable t.tried t.accepted 1 && leb (t.used + room) (length out)) (closed (tried (state_of t out) (b ∷ s))) []
+abbrev pub finish_answer : ℕ → State → List ℕ → List ℕ
+finish_answer size r [] = close_answer size r
+finish_answer size r (b ∷ s) = cond (ltb (r.tried + 1) (2 ^ 64) && leb (length r.text + room) size) (closed (tried r (b ∷ s))) []

@@ -1,10 +1,10 @@
 -- What is printed, as bytes in ASCII: 82 is R, 80 P, 69 E, 48 to 57 the digits, 45 the minus sign, 32 a blank and 10 the end of a line.
 -- 01, The ledger program.
-use Rattle.std.specs.Prelude.{◌≡◌, cond, List, [], ◌∷◌, ◌++◌, ℕ, zero, suc, ◌+◌, ◌*◌, ◌/◌, ◌%◌, ℤ, pos, negsuc, nat_abs, eqb, ltb, length, get_or, take}
+use Rattle.std.specs.Prelude.{cond, List, [], ◌∷◌, ◌++◌, ℕ, zero, suc, ◌+◌, ◌*◌, ◌/◌, ◌%◌, ℤ, pos, negsuc, nat_abs, eqb, ltb, length, get_or}
 use Rattle.money.specs.declared.Cents.{Cents}
 use Rattle.money.specs.Quantities.{cents}
 use Rattle.records.specs.Format.{party_count}
-use Rattle.book.specs.declared.Answer.{Answer}
+use Rattle.book.specs.Entered.{Answer}
 
 abbrev pub digit : ℕ → ℕ
 digit d = 48 + d
@@ -81,8 +81,3 @@ line_most = 1 + field_most + field_most + signed_field_most + 1
 -- sixteen of them
 abbrev pub lines_most : ℕ
 lines_most = party_count * line_most
-
--- A text was put after the first `from` bytes of a buffer: they and the text are its bytes up to `next`.
-pub record Put (before : List ℕ) (from : ℕ) (text : List ℕ) (next : ℕ) (after : List ℕ) : Type 0 where
-  pub ends : next ≡ from + length text
-  pub bytes : take next after ≡ take from before ++ text

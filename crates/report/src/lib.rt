@@ -1,5 +1,6 @@
-// The report: what is printed, and the records of a buffer, each tried, counted and answered.
+// The report: what is printed, and the records of a stream, each tried, counted and answered.
 #![tactic(auto)]
 
 pub mod pass;
+pub mod standing;
 mod text;

@@ -1,20 +1,22 @@
-// What is printed, put into a buffer byte by byte.
-ghost use Rattle.std.specs.Prelude.{[], ◌∷◌, ◌++◌, ◌+◌, ◌≤◌, ◌<◌, length};
-ghost use Rattle.records.specs.Format.{party_count};
-ghost use Rattle.report.specs.Printed.{Put, decimal, signed, field, line_end, refused_line, party_line, end_line, unless_zero, party_lines, digits_most};
-ghost use Rattle.report.specs.Printed.{signed_most, field_most, signed_field_most, pair_most, line_most, lines_most};
+// What is printed, put at the end of a text.
+#![tactic(auto, using(crate::proofs::Texts::std_decimal, crate::proofs::Texts::std_signed), unfolding(crate::specs::Printed::party_lines, crate::specs::Printed::unless_zero, crate::specs::Printed::refused_line, crate::specs::Printed::party_line, crate::specs::Printed::end_line))]
 
+ghost use Rattle.std.specs.Prelude.{◌≡◌, [], ◌∷◌, ◌++◌, ◌+◌, ◌≤◌, length};
+ghost use Rattle.records.specs.Format.{party_count};
+ghost use Rattle.report.specs.Printed.{decimal, signed, field, line_end, refused_line, party_line, end_line, unless_zero, party_lines};
+ghost use Rattle.report.specs.Printed.{field_most, signed_field_most, pair_most, line_most, lines_most};
+
+use arrayvec::ArrayVec;
 use book::Book;
+use itoa::{Buffer, Integer};
 use money::Cents;
 
-// The most bytes of each text, from those of its parts, down to LINES_MOST; specs/Printed.antt says what the parts are.
+// The most bytes of each text, from those of its parts; specs/Printed.antt says what the parts are.
 const DIGITS_MOST: usize = 20;
-
-const SIGNED_MOST: usize = 1 + DIGITS_MOST;
 
 const FIELD_MOST: usize = 1 + DIGITS_MOST;
 
-const SIGNED_FIELD_MOST: usize = 1 + SIGNED_MOST;
+const SIGNED_FIELD_MOST: usize = 1 + 1 + DIGITS_MOST;
 
 pub(crate) const PAIR_MOST: usize = 1 + FIELD_MOST + FIELD_MOST + 1;
 
@@ -22,111 +24,99 @@ const LINE_MOST: usize = 1 + FIELD_MOST + FIELD_MOST + SIGNED_FIELD_MOST + 1;
 
 pub(crate) const LINES_MOST: usize = Book::PARTIES * LINE_MOST;
 
-fn put(out: &mut [u8], at: usize, b: u8) -> usize
-    requires { at < length out.old }
-    ensures { Put out.old at (b ∷ []) result out.new }
+fn put<const SIZE: usize>(out: &mut ArrayVec<u8, SIZE>, text: &[u8])
+    requires { length out.old.items + length text.now ≤ SIZE }
+    ensures { out.new.items ≡ out.old.items ++ text.now }
 {
-    out[at] = b;
-    at + 1
-}
-
-fn put_number(out: &mut [u8], at: usize, n: u64) -> usize
-    requires { at + digits_most ≤ length out.old }
-    ensures { Put out.old at (decimal n) result out.new × (result ≤ at + digits_most) }
-{
-    if n < 10 {
-        return put(out, at, b'0' + n as u8);
-    }
-    let next = put_number(out, at, n / 10);
-    put(out, next, b'0' + (n % 10) as u8)
-}
-
-fn put_signed(out: &mut [u8], at: usize, v: i64) -> usize
-    requires { at + signed_most ≤ length out.old }
-    ensures { Put out.old at (signed v) result out.new × (result ≤ at + signed_most) }
-{
-    if v < 0 {
-        let next = put(out, at, b'-');
-        return put_number(out, next, (-(v + 1)) as u64 + 1);
-    }
-    put_number(out, at, v as u64)
+    let _ = out.try_extend_from_slice(text);
 }
 
 // A blank and a number.
-fn put_field(out: &mut [u8], at: usize, n: u64) -> usize
-    requires { at + field_most ≤ length out.old }
-    ensures { Put out.old at (field (decimal n)) result out.new × (result ≤ at + field_most) }
+fn put_field<I: Integer, const SIZE: usize>(out: &mut ArrayVec<u8, SIZE>, n: I)
+    requires { length out.old.items + 1 + I.MAX_STR_LEN ≤ SIZE }
+    ensures put { out.new.items ≡ out.old.items ++ field (I.text n) }
+    ensures most { length out.new.items ≤ length out.old.items + 1 + I.MAX_STR_LEN }
 {
-    let next = put(out, at, b' ');
-    put_number(out, next, n)
+    put(out, b" ");
+    put(out, Buffer::new().format(n).as_bytes());
 }
 
-fn put_signed_field(out: &mut [u8], at: usize, v: i64) -> usize
-    requires { at + signed_field_most ≤ length out.old }
-    ensures { Put out.old at (field (signed v)) result out.new × (result ≤ at + signed_field_most) }
+fn put_number<const SIZE: usize>(out: &mut ArrayVec<u8, SIZE>, n: u64)
+    requires { length out.old.items + field_most ≤ SIZE }
+    ensures put { out.new.items ≡ out.old.items ++ field (decimal n) }
+    ensures most { length out.new.items ≤ length out.old.items + field_most }
 {
-    let next = put(out, at, b' ');
-    put_signed(out, next, v)
+    put_field(out, n);
 }
 
-fn put_two(out: &mut [u8], at: usize, letter: u8, n: u64, k: u64) -> usize
-    requires { at + pair_most ≤ length out.old }
-    ensures put { Put out.old at (letter ∷ [] ++ field (decimal n) ++ field (decimal k) ++ line_end) result out.new }
-    ensures upper_bound { result ≤ at + pair_most }
+fn put_amount<const SIZE: usize>(out: &mut ArrayVec<u8, SIZE>, v: i64)
+    requires { length out.old.items + signed_field_most ≤ SIZE }
+    ensures put { out.new.items ≡ out.old.items ++ field (signed v) }
+    ensures most { length out.new.items ≤ length out.old.items + signed_field_most }
 {
-    let first = put(out, at, letter);
-    let second = put_field(out, first, n);
-    let end = put_field(out, second, k);
-    put(out, end, b'\n')
+    put_field(out, v);
 }
 
-pub(crate) fn put_refusal(out: &mut [u8], at: usize, n: u64, c: u32) -> usize
-    requires { at + pair_most ≤ length out.old }
-    ensures { Put out.old at (refused_line n c) result out.new × (result ≤ at + pair_most) }
+fn put_pair<const SIZE: usize>(out: &mut ArrayVec<u8, SIZE>, letter: &[u8; 1], n: u64, k: u64)
+    requires { length out.old.items + pair_most ≤ SIZE }
+    ensures put { out.new.items ≡ out.old.items ++ letter.now ++ field (decimal n) ++ field (decimal k) ++ line_end }
+    ensures most { length out.new.items ≤ length out.old.items + pair_most }
 {
-    put_two(out, at, b'R', n, c as u64)
+    put(out, letter);
+    put_number(out, n);
+    put_number(out, k);
+    put(out, b"\n");
 }
 
-pub(crate) fn put_end(out: &mut [u8], at: usize, n: u64, k: u64) -> usize
-    requires { at + pair_most ≤ length out.old }
-    ensures { Put out.old at (end_line n k) result out.new × (result ≤ at + pair_most) }
+pub(crate) fn put_refusal<const SIZE: usize>(out: &mut ArrayVec<u8, SIZE>, n: u64, c: u32)
+    requires { length out.old.items + pair_most ≤ SIZE }
+    ensures put { out.new.items ≡ out.old.items ++ refused_line n c }
+    ensures most { length out.new.items ≤ length out.old.items + pair_most }
 {
-    put_two(out, at, b'E', n, k)
+    put_pair(out, b"R", n, u64::from(c));
 }
 
-fn put_line(out: &mut [u8], at: usize, a: u32, p: usize, v: i64) -> usize
-    requires { at + line_most ≤ length out.old }
-    ensures { Put out.old at (party_line a p v) result out.new × (result ≤ at + line_most) }
+pub(crate) fn put_end<const SIZE: usize>(out: &mut ArrayVec<u8, SIZE>, n: u64, k: u64)
+    requires { length out.old.items + pair_most ≤ SIZE }
+    ensures put { out.new.items ≡ out.old.items ++ end_line n k }
+    ensures most { length out.new.items ≤ length out.old.items + pair_most }
 {
-    let area = put(out, at, b'P');
-    let party = put_field(out, area, a as u64);
-    let line = put_field(out, party, p as u64);
-    let end = put_signed_field(out, line, v);
-    put(out, end, b'\n')
+    put_pair(out, b"E", n, k);
 }
 
-fn put_unless_zero(out: &mut [u8], at: usize, a: u32, p: usize, v: i64) -> usize
-    requires { at + line_most ≤ length out.old }
-    ensures { Put out.old at (unless_zero a p v) result out.new × (result ≤ at + line_most) }
+fn put_line<const SIZE: usize>(out: &mut ArrayVec<u8, SIZE>, area: u32, party: u64, v: i64)
+    requires { length out.old.items + line_most ≤ SIZE }
+    ensures put { out.new.items ≡ out.old.items ++ party_line area party v }
+    ensures most { length out.new.items ≤ length out.old.items + line_most }
 {
-    if v == 0 {
-        return at;
+    put(out, b"P");
+    put_number(out, u64::from(area));
+    put_number(out, party);
+    put_amount(out, v);
+    put(out, b"\n");
+}
+
+fn put_unless_zero<const SIZE: usize>(out: &mut ArrayVec<u8, SIZE>, area: u32, party: u64, v: i64)
+    requires { length out.old.items + line_most ≤ SIZE }
+    ensures put { out.new.items ≡ out.old.items ++ unless_zero area party v }
+    ensures most { length out.new.items ≤ length out.old.items + line_most }
+{
+    if v != 0 {
+        put_line(out, area, party, v);
     }
-    put_line(out, at, a, p, v)
 }
 
-// The sixteen lines of a post of area a.
-pub(crate) fn put_lines(out: &mut [u8], at: usize, a: u32, lines: [Cents; Book::PARTIES]) -> usize
-    requires { at + lines_most ≤ length out.old }
-    ensures { Put out.old at (party_lines a lines party_count) result out.new × (result ≤ at + lines_most) }
+// The sixteen lines of a post of an area.
+pub(crate) fn put_lines<const SIZE: usize>(
+    out: &mut ArrayVec<u8, SIZE>,
+    area: u32,
+    lines: [Cents; Book::PARTIES],
+)
+    requires { length out.old.items + lines_most ≤ SIZE }
+    ensures put { out.new.items ≡ out.old.items ++ party_lines area lines party_count }
+    ensures most { length out.new.items ≤ length out.old.items + lines_most }
 {
-    let mut next = at;
-    let mut p = 0;
-    while p < Book::PARTIES {
-        let line = lines[p];
-        p = p + 1;
-        let end = put_unless_zero(out, next, a, p, line.amount());
-        next = end;
+    for (p, line) in lines.iter().enumerate() {
+        put_unless_zero(out, area, p as u64 + 1, line.amount());
     }
-    next
 }

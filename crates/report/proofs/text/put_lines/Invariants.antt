@@ -1,11 +1,7 @@
-use Rattle.std.proofs.Common.{◌≡◌, ◌+◌, ◌-◌, ◌*◌, ◌≤◌, length}
-use Rattle.records.specs.Format.{party_count}
-use Rattle.report.specs.Printed.{party_lines, line_most, Put}
+use Rattle.std.proofs.Common.{◌≡◌, ◌++◌, ◌+◌, ◌*◌, ◌≤◌, length}
+use Rattle.report.specs.Printed.{party_lines, line_most}
 use Rattle.report.proofs.text.put_lines.Given as goal
 
 abbrev pub invariant-loop-p : goal.invariant-loop-p
-invariant-loop-p l =
-    (l.p ≤ party_count) × (length l.out ≡ length l.initial.out) × (l.next ≤ l.at + line_most * l.p) × Put l.initial.out l.at (party_lines l.a l.lines l.p) l.next l.out
-
-abbrev pub decreases-loop-p : goal.decreases-loop-p
-decreases-loop-p l = party_count - l.p
+invariant-loop-p g l =
+    (l.out.items ≡ l.initial.out.items ++ party_lines l.area l.fn.lines l.p) × (length l.out.items ≤ length l.initial.out.items + l.p * line_most)

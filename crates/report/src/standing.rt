@@ -1,0 +1,15 @@
+// Where a run of records stands.
+ghost use Rattle.std.specs.Prelude.{◌≤◌};
+
+use arrayvec::ArrayVec;
+use book::Book;
+
+// The book, how many records were tried and how many of them accepted, and the text that is still to be printed.
+#[derive(Drop)]
+pub struct Report<const SIZE: usize> {
+    pub(crate) book: Book,
+    pub(crate) tried: u64,
+    pub(crate) accepted: u64,
+    pub(crate) text: ArrayVec<u8, SIZE>,
+    ghost counted: { accepted ≤ tried },
+}
