@@ -1,11 +1,11 @@
 -- From the number that rows 1 to 10 give to a string's answer.
-use Rattle.std.proofs.Common.{◌≡◌, refl, sym, ap, ◌∙◌, Bool, true, false, cond, List, ℕ, suc, Result, Ok, Err, arith, eqb, get_or, set, ne_eqb}
+use Rattle.std.proofs.Common.{◌≡◌, refl, sym, ap, ◌∙◌, Bool, true, false, cond, List, ℕ, suc, Result, Ok, Err, arith, eqb, get_or, ne_eqb}
 use Rattle.std.specs.Result.{IsErrAnd, is_err}
 use Rattle.numbers.specs.Lists.{element}
 use Rattle.money.specs.declared.Cents.{Cents}
 use Rattle.records.specs.declared.format.Fault.{Fault}
 use Rattle.records.specs.declared.format.Record.{Record}
-use Rattle.records.specs.declared.format.Record.TheVariants.{Hour, Post}
+use Rattle.records.specs.declared.format.Record.TheVariants.{Post}
 use Rattle.records.specs.Format.{post_format}
 use Rattle.records.specs.Kinds.{Decoded, numbers_of, is_of}
 use Rattle.records.specs.Decoded.{decoded}
@@ -15,12 +15,11 @@ use Rattle.rules.specs.declared.refusal.Refusal.TheVariants.{Broken, UnknownTag,
 use Rattle.rules.specs.Refusal.{has_fault, no_year, second_year, out_of_range, not_entered, second_unit, derated_out, not_later, row, refusal_of, row_number, number_of, IsRow}
 use Rattle.rules.specs.Facts.{no_area}
 use Rattle.rules.specs.Dues.{undistributed_in}
-use Rattle.rules.specs.Rules.{area_index, unit_index, area_named, unit_named, post_undistributed, asked_of, asked, refusal}
+use Rattle.rules.specs.Rules.{area_index, area_named, unit_named, post_undistributed, asked_of, asked, refusal}
 use Rattle.rules.proofs.AcceptedRows.{fault_row}
 use Rattle.book.specs.declared.Unit as unit
-use Rattle.book.specs.declared.Book.{Book}
-use Rattle.book.specs.Books.{no_entry, facts_of_book, Sound}
-use Rattle.book.specs.Entered.{Answer, with_hour, posted_after, after, no_lines, post_lines, lines_of, answer, answered, entered}
+use Rattle.book.specs.Books.{Book, no_entry, facts_of_book, Sound}
+use Rattle.book.specs.Entered.{Answer, posted_after, after, no_lines, post_lines, lines_of, answer, answered, entered}
 use Rattle.book.specs.Steps.{with_posted, post_answer}
 use Rattle.book.proofs.AreaMoney.{due_most_lem}
 use Rattle.book.proofs.Soundness.{entered_sound}
@@ -82,10 +81,6 @@ no_row (Ok u) e = refl
 no_row (Err x) e = cc
 
 module _ (b : Book) (s : List ℕ) where
-  -- the book after it is sound
-  pub sound_answer : Sound b → {x : Answer} → x ≡ entered b s → (x ≡ entered b s) × Sound x.book
-  sound_answer sound e = (e, rw e (entered_sound b s sound (due_most_lem b sound)))
-
   refused : (r : Decoded) (x : Refusal) → r ≡ decoded s → row_number x ≡ refusal_of (before b r) r → answer (row_number x) no_lines b ≡ entered b s
   unfolding entered refusal
   refused r x known e =
@@ -125,6 +120,11 @@ module _ (b : Book) (s : List ℕ) where
         = rw (sym known) (settled_row b (Ok r) ∙ rw (sym (number_is passed), other)) in
         let lines : no_lines ≡ lines_of b (Ok r) = rw other in
         rw (number, ← known, book) (ap (λ (ls : List Cents). answer 0 ls (after b (Ok r))) lines)
+
+    -- the book after it is sound
+    pub sound_after : {b' : Book} → Sound b → 0 ≡ refusal_of a (Ok r) → is_of post_format (Ok r) ≡ false → b' ≡ after b (Ok r) → Sound b'
+    sound_after sound passed other book =
+        rw (ap (λ (x : Answer). x.book) (accepted passed other book)) (entered_sound b s sound (due_most_lem b sound))
 
     -- they let a Post pass
     pub posted : {p : ℕ} {x : Answer} → r ≡ Post p → 0 ≡ refusal_of a (Ok r) → x ≡ post_answer b (area_index p) → x ≡ entered b s

@@ -1,5 +1,5 @@
 -- An area's money in a sound book: it is in the ranges of `capacity` and `money`, so that each answer is what 01 defines.
-use Rattle.std.proofs.Common.{◌≡◌, refl, ap, ◌∙◌, Bool, true, false, cond, List, [], ℕ, ◌/◌, ◌%◌, ◌≤◌, ◌<◌, zero-le, le_refl, mod-lt, arith, ℤ, pos}
+use Rattle.std.proofs.Common.{◌≡◌, refl, ap, ◌∙◌, true, List, [], ℕ, ◌≤◌, ◌<◌, le_refl, ℤ, pos}
 use Rattle.std.proofs.Common.{nat_abs, get_or, set, le-leb}
 use Rattle.std.proofs.lemmas.List.{get_or_default}
 use Rattle.numbers.specs.Lists.{list_below, element}
@@ -19,8 +19,7 @@ use Rattle.money.proofs.Sixteen.{range_same, settled_same}
 use Rattle.records.specs.Format.{area_count, party_count}
 use Rattle.rules.specs.Facts.{Facts}
 use Rattle.rules.specs.Dues.{days, net_in, due_in, undistributed_in, settled_in}
-use Rattle.book.specs.declared.Book.{Book}
-use Rattle.book.specs.Books.{no_obligations, no_sums, posted_in, facts_of_book, Sound}
+use Rattle.book.specs.Books.{Book, no_obligations, no_sums, posted_in, facts_of_book, Sound}
 use Rattle.book.specs.Entered.{post_lines, posted_after}
 use Rattle.book.proofs.AreaNets.{element_of, watts_at, days_in_range, nets_in_range}
 

@@ -29,8 +29,7 @@ use Rattle.rules.specs.Facts.{Facts}
 use Rattle.rules.specs.Rules.{party_index}
 use Rattle.rules.specs.Dues.{days, watt_days_for, part_for, share_in, net_in}
 use Rattle.book.specs.declared.Unit.{Unit}
-use Rattle.book.specs.declared.Book.{Book}
-use Rattle.book.specs.Books.{no_entry, commitment_in, facts_of_book, SoundUnit, SoundCommitments, Sound}
+use Rattle.book.specs.Books.{Book, no_entry, commitment_in, facts_of_book, SoundUnit, SoundCommitments, Sound}
 use Rattle.book.specs.Steps.{part_most, commitment_part}
 use Rattle.book.proofs.Ranges.{watt_days_most_lem, part_most_lem, other_unit, own_part}
 

@@ -1,5 +1,5 @@
 -- Every book that strings lead to is sound: the empty book is, and an answer's book is if the book before it was.
-use Rattle.std.proofs.Common.{◌≡◌, refl, ◌∙◌, Bool, true, false, cond, ◌&&◌, List, [], ◌∷◌, inl, inr, ℕ, ◌+◌, ◌*◌, ◌/◌, ◌%◌, ◌≤◌, ◌<◌, add-mul}
+use Rattle.std.proofs.Common.{◌≡◌, refl, ◌∙◌, Bool, true, false, cond, ◌&&◌, List, [], ◌∷◌, inl, inr, ℕ, ◌+◌, ◌*◌, ◌≤◌, ◌<◌, add-mul}
 use Rattle.std.proofs.Common.{Ok, arith, pos, nat_abs, eqb, leb, get_or, set, length-set, ltb-true, leb-true, leb-false, eqb-true}
 use Rattle.numbers.specs.Lists.{list_below}
 use Rattle.numbers.proofs.Tests.{within_from, within_to, both_true}
@@ -26,8 +26,8 @@ use Rattle.rules.proofs.ByKind.{chosen, as_made, fit}
 use Rattle.rules.proofs.Fields.{numbers_fit_lem, rule_holds}
 use Rattle.rules.proofs.AcceptedRows.{Accepted, accepted}
 use Rattle.book.specs.declared.Unit as unit
-use Rattle.book.specs.declared.Book.{Book}
-use Rattle.book.specs.Books.{no_entry, facts_of_book, empty_book, no_obligations, no_sums, SoundUnit, SoundCommitment, Array, Sound}
+use Rattle.book.specs.Books.{Book, no_entry, facts_of_book, empty_book, no_obligations, no_sums, SoundUnit, SoundCommitment, Array, Sound}
+use Rattle.book.specs.Steps.{with_posted}
 use Rattle.book.specs.Entered.{new_unit, with_hour, posted_after, after, entered, book_after}
 use Rattle.book.proofs.AreaNets.{days_in_range}
 
@@ -158,16 +158,22 @@ with_hour_sound y u h s ok not_out later =
 abbrev pub DuesFit : Book → Type 0
 DuesFit b = (a p : ℕ) → p < party_count → nat_abs (due_in (facts_of_book b) a p) ≤ due_most
 
+posted_sound : (b : Book) → Sound b → DuesFit b → (a : ℕ) → Array area_count Sums no_sums (posted_after b a)
+unfolding posted_after
+posted_sound b s dues a =
+    array_stored a _ (record { long = length_below party_count _; each = each_made (λ (c : Cents). nat_abs c.0 ≤ due_most) (cents (pos 0)) party_count _ (omega arith) (dues a) })
+    s.posted
+
+-- the book after a Post
+pub with_posted_sound : (b : Book) → Sound b → DuesFit b → (a : ℕ) → Sound (with_posted b (posted_after b a))
+with_posted_sound b s dues a =
+    record { year_most = s.year_most; areas = s.areas; units = s.units; commitments = s.commitments; obligations = s.obligations; posted = posted_sound b s dues a }
+
 -- the book after an accepted record is sound, field by field
 module _ (b : Book) (r : Decoded) (s : Sound b) (dues : DuesFit b) (ok : Accepted (asked (facts_of_book b) r) r) where
   hour_sound : (h : HourRecord) → Accepted (asked (facts_of_book b) (Ok (Hour h))) (Ok (Hour h))
       → SoundUnit (with_hour b.year (get_or b.units (unit_index h.unit) no_entry) h)
   hour_sound h passed = with_hour_sound b.year _ h (s.units.each _) passed.in_range_lem passed.not_out passed.later
-
-  posted_sound : (a : ℕ) → Array area_count Sums no_sums (posted_after b a)
-  unfolding posted_after
-  posted_sound a =
-      array_stored a _ (record { long = length_below party_count _; each = each_made (λ (c : Cents). nat_abs c.0 ≤ due_most) (cents (pos 0)) party_count _ (omega arith) (dues a) }) s.posted
 
   accepted_sound : Sound (after b r)
   accepted_sound =
@@ -185,7 +191,7 @@ module _ (b : Book) (r : Decoded) (s : Sound b) (dues : DuesFit b) (ok : Accepte
         obligations =
             chosen (Array area_count Obligations no_obligations) (is_of load_format r)
             (λ q. array_stored _ _ (array_stored _ _ (within_to _ _ _ (fit ok load_format tt q).1.1.0) (s.obligations.each _)) s.obligations) s.obligations;
-        posted = chosen (Array area_count Sums no_sums) (is_of post_format r) (λ q. posted_sound _) s.posted;
+        posted = chosen (Array area_count Sums no_sums) (is_of post_format r) (λ q. posted_sound b s dues _) s.posted;
       }
 
 -- the book after a record that no row refuses

@@ -12,7 +12,17 @@ use Rattle.records.specs.declared.format.CommitmentRecord.{CommitmentRecord}
 use Rattle.records.specs.Format.{area_count, unit_count, commitment_count, party_count}
 use Rattle.rules.specs.Facts.{Facts, no_area, no_unit, no_commitment, no_hours}
 use Rattle.book.specs.declared.Unit.{Unit}
-use Rattle.book.specs.declared.Book.{Book}
+
+-- what has been entered, each at its number less 1
+pub record Book : Type 0 where
+  -- 0 before a year is entered
+  pub year : ℕ
+  pub areas : List AreaRecord
+  pub units : List Unit
+  pub commitments : List CommitmentRecord
+  -- by area and then party
+  pub obligations : List (List ℕ)
+  pub posted : List (List Cents)
 
 -- no unit
 abbrev pub no_entry : Unit

@@ -17,8 +17,7 @@ use Rattle.rules.specs.declared.refusal.Refusal.{Refusal}
 use Rattle.rules.specs.Refusal.{number_of}
 use Rattle.rules.specs.Rules.{area_index, unit_index, number_index, party_index, refusal}
 use Rattle.book.specs.declared.Unit as unit
-use Rattle.book.specs.declared.Book.{Book}
-use Rattle.book.specs.Books.{facts_of_book, empty_book, Sound, no_entry, no_obligations, posted_in}
+use Rattle.book.specs.Books.{Book, facts_of_book, empty_book, Sound, no_entry, no_obligations, posted_in}
 
 -- a unit as it is entered, without hours
 abbrev pub new_unit : UnitRecord → unit.Unit

@@ -1,4 +1,5 @@
 pub mod Books
 pub mod Entered
 pub mod Runs
+pub mod Seen
 pub mod Steps

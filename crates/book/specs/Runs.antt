@@ -3,7 +3,7 @@ use Rattle.std.specs.Prelude.{Bool, true, false, cond, ◌&&◌, List, ℕ, zero
 use Rattle.records.specs.Format.{bytes_of, hour_format}
 use Rattle.records.specs.Decoded.{decoded}
 use Rattle.records.specs.Kinds.{of_hour}
-use Rattle.book.specs.declared.Book.{Book}
+use Rattle.book.specs.Books.{Book}
 use Rattle.book.specs.Entered.{entered}
 
 -- so many bytes has an Hour record

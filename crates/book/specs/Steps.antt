@@ -3,10 +3,8 @@ use Rattle.std.specs.Prelude.{cond, List, ℕ, ◌+◌, ◌*◌, eqb}
 use Rattle.capacity.specs.Shortfall.{commitment_most, watt_days}
 use Rattle.money.specs.declared.Cents.{Cents}
 use Rattle.records.specs.declared.format.CommitmentRecord.{CommitmentRecord}
-use Rattle.records.specs.Format.{party_count}
 use Rattle.rules.specs.Dues.{undistributed_in}
-use Rattle.book.specs.declared.Book.{Book}
-use Rattle.book.specs.Books.{facts_of_book}
+use Rattle.book.specs.Books.{Book, facts_of_book}
 use Rattle.book.specs.Entered.{Answer, posted_after, no_lines, post_lines, answer}
 
 -- a commitment's watt-days are at most 5,000,000 W on 366 days

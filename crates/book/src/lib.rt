@@ -2,7 +2,7 @@
 #![tactic(auto)]
 
 ghost use Rattle.std.specs.Prelude.{◌≡◌, cond, length};
-ghost use Rattle.book.specs.Books.{empty_book, Sound};
+ghost use Rattle.book.specs.Books.{empty_book};
 ghost use Rattle.book.specs.Entered.{answered, entered};
 ghost use Rattle.book.specs.Runs.{is_accepted_hour, run, hours_between};
 
@@ -12,6 +12,7 @@ use records::decode::{decode, hour_of};
 use records::format::{AreaRecord, CommitmentRecord, HOUR_BYTES, Record, UnitRecord};
 use rules::indices::{self, area_named, index, unit_named};
 use rules::refusal::{Asked, Refusal};
+use std::marker::Model;
 
 // A unit: its record, and what its accepted hours come to.
 #[derive(Clone, Copy)]
@@ -22,8 +23,8 @@ pub struct Unit {
     last: u64,
 }
 
-// What has been entered, each at its number less 1. What is all zeros is not entered: no number of a record is 0, and the
-// facts of a book that has only some of them are read so.
+// What has been entered, each at its number less 1. What is all zeros is not entered, as no record has the number 0: memory is
+// fixed, and the facts of a book are read so.
 #[derive(Drop)]
 pub struct Book {
     // 0 before a year is entered.
@@ -34,6 +35,19 @@ pub struct Book {
     // By area and then party.
     obligations: [[u32; Book::PARTIES]; Book::AREAS],
     posted: [[Cents; Book::PARTIES]; Book::AREAS],
+}
+
+// Clauses see a book as what has been entered; all of that is in its ranges.
+impl Model for Book {
+    ghost use Rattle.book.specs.Books.{Book as Entered};
+
+    ghost Value = { Entered };
+
+    ghost use Rattle.book.specs.Seen.{seen, IsSound};
+
+    ghost view = { seen };
+
+    ghost invariant = { IsSound };
 }
 
 impl Book {
@@ -47,7 +61,7 @@ impl Book {
 
     // A book with nothing entered.
     pub fn new() -> Self
-        ensures { (result ≡ empty_book) × Sound result }
+        ensures { result ≡ empty_book }
     {
         Self {
             year: 0,
@@ -68,9 +82,7 @@ impl Book {
 
     // One string of bytes: counted, or refused. Only a Post has lines other than zero.
     pub fn enter(&mut self, bytes: &[u8]) -> Result<[Cents; Book::PARTIES], Refusal>
-        requires { Sound self.old }
-        ensures value { answered result self.new ≡ entered self.old bytes.now }
-        ensures sound { Sound self.new }
+        ensures { answered result self.new ≡ entered self.old bytes.now }
     {
         let r = decode(bytes)?;
         let i = area_named(r);
@@ -98,10 +110,8 @@ impl Book {
 
     // An Hour as `enter` takes it, and nothing else: whether it was accepted.
     fn enter_hour(&mut self, bytes: &[u8]) -> bool
-        requires { Sound self.old }
         ensures value { result ≡ is_accepted_hour self.old bytes.now }
         ensures book { self.new ≡ cond result (entered self.old bytes.now).book self.old }
-        ensures sound { Sound self.new }
     {
         let Some(h) = hour_of(bytes) else {
             return false;
@@ -119,9 +129,7 @@ impl Book {
     // The Hour records at the start of a slice, entered one after another: up to the first record that is anything else or
     // would be refused. Answers where that begins.
     pub fn hours(&mut self, s: &[u8]) -> usize
-        requires { Sound self.old }
-        ensures value { run result self.new ≡ hours_between self.old s.now 0 (length s.now) }
-        ensures sound { Sound self.new }
+        ensures { run result self.new ≡ hours_between self.old s.now 0 (length s.now) }
     {
         let mut end = 0;
         for bytes in s.chunks_exact(HOUR_BYTES) {

@@ -4,7 +4,7 @@ ghost use Rattle.numbers.specs.Lists.{list_below};
 ghost use Rattle.capacity.specs.Quantities.{unforced_watts};
 ghost use Rattle.records.specs.Format.{area_count, unit_count, party_count};
 ghost use Rattle.rules.specs.Dues.{part_for, net_in, settled_in};
-ghost use Rattle.book.specs.Books.{commitment_in, facts_of_book, SoundCommitments, Sound};
+ghost use Rattle.book.specs.Books.{commitment_in, facts_of_book, SoundCommitments};
 ghost use Rattle.book.specs.Entered.{answered};
 ghost use Rattle.book.specs.Steps.{post_answer};
 
@@ -38,7 +38,7 @@ fn parts(commitments: &[CommitmentRecord; Book::COMMITMENTS], u: usize) -> [u64;
 impl Book {
     // Each party's net in an area.
     fn area_nets(&self, area: usize) -> [UnforcedWatts; Book::PARTIES]
-        requires { Sound self.now × (area < area_count) }
+        requires { area < area_count }
         ensures { result ≡ list_below party_count (λ p. unforced_watts (net_in (facts_of_book self.now) area p)) }
     {
         let days = delivery_days(self.year) as u64;
@@ -46,9 +46,8 @@ impl Book {
         let units = &self.units;
         let mut nets = no_nets();
         for (k, u) in units.iter().enumerate() {
-            let of = u.entry.area as usize;
-            let this = area + 1;
-            if of == this {
+            let is_here = u.entry.area as usize == area + 1;
+            if is_here {
                 let shares = unit_shares(u.entry.rating, u.hours, parts(commitments, k), days);
                 let more = add_shares(nets, shares);
                 nets = more;
@@ -59,7 +58,7 @@ impl Book {
 
     // What an area comes to.
     fn area_settled(&self, area: usize) -> AreaMoney
-        requires { Sound self.now × (area < area_count) }
+        requires { area < area_count }
         ensures { result ≡ settled_in (facts_of_book self.now) area }
     {
         let days = delivery_days(self.year) as u64;
@@ -70,7 +69,7 @@ impl Book {
 
     // The post of an area that is entered: row 11, or the lines and the posted sums.
     pub(crate) fn post(&mut self, area: usize) -> Result<[Cents; Book::PARTIES], Refusal>
-        requires { Sound self.old × (area < area_count) }
+        requires { area < area_count }
         ensures { answered result self.new ≡ post_answer self.old area }
     {
         let money = self.area_settled(area);

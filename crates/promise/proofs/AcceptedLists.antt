@@ -11,9 +11,8 @@ use Rattle.money.proofs.Balance.{dues_balance}
 use Rattle.records.specs.declared.format.UnitRecord.{UnitRecord}
 use Rattle.records.specs.declared.format.CommitmentRecord.{CommitmentRecord}
 use Rattle.records.specs.declared.format.HourRecord.{HourRecord}
-use Rattle.records.specs.declared.format.Record.{Record}
 use Rattle.records.specs.Format.{area_count, unit_count, party_count, year_format, unit_format, commitment_format, hour_format, post_format}
-use Rattle.records.specs.Kinds.{numbers_of, is_of, unit_from, commitment_from, hour_from}
+use Rattle.records.specs.Kinds.{Decoded, numbers_of, is_of, unit_from, commitment_from, hour_from}
 use Rattle.records.proofs.OneKind.{is_made}
 use Rattle.rules.specs.Hours.{hour_index}
 use Rattle.rules.specs.Dues.{due_in, undistributed_in}
@@ -32,7 +31,7 @@ PartyKnown c = (c.unit ≡ 0) ⊎ (within 1 party_count c.party ≡ true)
 abbrev Balanced : (ℕ → ℤ) → Type 0
 Balanced f = sum_below_ℤ party_count f ≡ pos 0
 
-pub record Kept (acc : List Record) : Type 0 where
+pub record Kept (acc : List Decoded) : Type 0 where
   -- nothing is accepted before a year
   pub no_year_lem : year_of acc ≡ 0 → acc ≡ []
   -- a unit that is not entered has no hours
@@ -48,7 +47,7 @@ unfolding year_of latest_commitment accepted_hours reckoned_paid sum_below_ℤ
 kept_none = record { no_year_lem = λ e. refl; no_hours_lem = λ u e. refl; falling = λ u. tt; parties = λ j. inl refl; balance = λ a. refl }
 
 -- the list with an accepted record more
-module _ (acc : List Record) (k : Kept acc) (r : Record) (ok : Accepted (asked (facts_of_list acc) r) r) where
+module _ (acc : List Decoded) (k : Kept acc) (r : Decoded) (ok : Accepted (asked (facts_of_list acc) r) r) where
   -- row 5, passed by a Year: there is no year yet, so nothing is accepted
   pub before_year : is_of year_format r ≡ true → acc ≡ []
   unfolding facts_of_list

@@ -1,10 +1,8 @@
 -- A book and a list of accepted records that hold the same, field by field.
-use Rattle.std.proofs.Common.{◌≡◌, refl, ap, ◌∙◌, Bool, true, false, cond, ◌&&◌, List, [], ◌∷◌, ℕ, ◌+◌, ◌/◌, ◌%◌, ◌<◌, arith, pos, eqb, ltb, length}
-use Rattle.std.proofs.Common.{get_or, set, ltb-true, ltb-false, eqb-true, eq-eqb, ne_eqb}
-use mathlib.Core.Bool.{and-false}
-use borrow.Author.Tests.{eqb-false}
+use Rattle.std.proofs.Common.{◌≡◌, refl, ap, ◌∙◌, Bool, true, false, cond, ◌&&◌, List, [], ◌∷◌, ℕ, ◌+◌, ◌<◌, arith, pos, eqb, length}
+use Rattle.std.proofs.Common.{get_or, set, ltb-false}
 use Rattle.numbers.specs.Range.{within}
-use Rattle.numbers.specs.Lists.{list_below}
+use Rattle.numbers.specs.Lists.{list_below, element}
 use Rattle.numbers.proofs.Tests.{within_from, within_to}
 use Rattle.numbers.proofs.Lists.{element_below, stored_at, each_made}
 use Rattle.money.specs.declared.Cents.{Cents}
@@ -12,20 +10,18 @@ use Rattle.money.specs.Quantities.{cents}
 use Rattle.records.specs.declared.format.UnitRecord.{UnitRecord}
 use Rattle.records.specs.declared.format.HourRecord.{HourRecord}
 use Rattle.records.specs.declared.format.LoadRecord.{LoadRecord}
-use Rattle.records.specs.declared.format.Record.{Record}
 use Rattle.records.specs.Format.{area_count, unit_count, commitment_count, party_count, year_format, area_format, unit_format, commitment_format, hour_format}
 use Rattle.records.specs.Format.{load_format, post_format}
-use Rattle.records.specs.Kinds.{is_of}
+use Rattle.records.specs.Kinds.{Decoded, is_of}
 use Rattle.rules.specs.Hours.{counted}
 use Rattle.rules.specs.Facts.{no_area, no_commitment, is_entered}
 use Rattle.rules.specs.Rules.{index, area_index, unit_index, party_index, asked}
 use Rattle.rules.proofs.Named.{index_below, named_by, named_index}
 use Rattle.rules.proofs.AcceptedRows.{Accepted}
-use Rattle.rules.proofs.ByKind.{chosen, paired, as_made, fit, by_kind}
+use Rattle.rules.proofs.ByKind.{paired, as_made, fit, by_kind}
 use Rattle.book.specs.declared.Unit as unit
-use Rattle.book.specs.declared.Book.{Book}
-use Rattle.book.specs.Books.{no_entry, pair_count, area_party, obligation_in, facts_of_book, posted_in, empty_book, Sound}
-use Rattle.book.specs.Entered.{new_unit, with_hour, posted_after, units_after, after}
+use Rattle.book.specs.Books.{Book, no_entry, no_obligations, no_sums, obligation_in, facts_of_book, posted_in, empty_book, Sound}
+use Rattle.book.specs.Entered.{new_unit, with_hour, posted_after, obligations_after, units_after, after}
 use Rattle.promise.specs.Reckoning.{year_of, latest_area, unit_of, latest_commitment, latest_obligation, accepted_hours, sum_over, last_index, facts_of_list}
 use Rattle.promise.specs.Reckoning.{counts_of, reckoned_due, reckoned_paid}
 use Rattle.promise.proofs.AcceptedLists.{Kept, before_year}
@@ -34,10 +30,10 @@ use Rattle.promise.proofs.AcceptedLists.{Kept, before_year}
 abbrev unit_with : ℕ → UnitRecord → List HourRecord → unit.Unit
 unit_with y entry hours = record { entry = entry; hours = counts_of y hours; last = last_index y hours }
 
-abbrev unit_in : List Record → ℕ → unit.Unit
+abbrev unit_in : List Decoded → ℕ → unit.Unit
 unit_in acc k = unit_with (year_of acc) (unit_of acc k) (accepted_hours acc k)
 
-pub record Agrees (b : Book) (acc : List Record) : Type 0 where
+pub record Agrees (b : Book) (acc : List Decoded) : Type 0 where
   pub year : b.year ≡ year_of acc
   pub areas : (k : ℕ) → get_or b.areas k no_area ≡ latest_area acc k
   pub units : (k : ℕ) → get_or b.units k no_entry ≡ unit_in acc k
@@ -46,7 +42,7 @@ pub record Agrees (b : Book) (acc : List Record) : Type 0 where
   pub posted : (a p : ℕ) → a < area_count → p < party_count → posted_in b.posted a p ≡ reckoned_paid acc a p
 
 -- then their facts are the same
-pub agreed_facts : (b : Book) (acc : List Record) → Agrees b acc → facts_of_book b ≡ facts_of_list acc
+pub agreed_facts : (b : Book) (acc : List Decoded) → Agrees b acc → facts_of_book b ≡ facts_of_list acc
 unfolding facts_of_list
 agreed_facts b acc g = λ i. record {
   year = g.year i;
@@ -70,8 +66,9 @@ agrees_none =
       areas = all_one area_count no_area;
       units = all_one unit_count no_entry;
       commitments = all_one commitment_count no_commitment;
-      obligations = λ a p. chosen (λ x. x ≡ 0) (ltb p party_count) (λ q. all_one pair_count 0 (area_party a p)) refl;
-      posted = λ a p ha hp. ap (λ (c : Cents). c.0) (all_one pair_count (cents (pos 0)) (area_party a p));
+      obligations = λ a p. rw (all_one area_count no_obligations a) (all_one party_count 0 p);
+      posted = λ a p ha hp.
+          ap (λ (row : List Cents). (get_or row p (cents (pos 0))).0) (all_one area_count no_sums a) ∙ ap (λ (c : Cents). c.0) (all_one party_count (cents (pos 0)) p);
     }
 
 module _ {A : Type 0} where
@@ -87,23 +84,7 @@ module _ {A : Type 0} where
       → get_or (cond t (set l (index most n) x) l) k d ≡ cond t (cond (eqb n (k + 1)) x old) old
   keyed_more t most n l x d k ok long e = paired (λ m y. get_or m k d ≡ y) t (λ q. keyed most n l x d k (ok q) long e) e
 
--- the area and the party of an index
-area_of : (a p : ℕ) → p < party_count → area_party a p / party_count ≡ a
-area_of a p h = omega arith
-
-party_of : (a p : ℕ) → p < party_count → area_party a p % party_count ≡ p
-party_of a p h = omega arith
-
--- the index of an area's party is that of no other
-same_index : (i q a p : ℕ) → q < party_count → p < party_count → eqb (area_party a p) (area_party i q) ≡ (eqb a i && eqb p q)
-same_index i q a p hq hp = go (eqb a i) refl (eqb p q) refl
-  where
-    go : (t : Bool) → eqb a i ≡ t → (u : Bool) → eqb p q ≡ u → eqb (area_party a p) (area_party i q) ≡ (t && u)
-    go true et true eu = eq-eqb (area_party a p) (area_party i q) (rw (eqb-true a i et, eqb-true p q eu))
-    go true et false eu = ne_eqb (area_party a p) (area_party i q) (λ e. eqb-false p q eu (omega (arith, e, eqb-true a i et)))
-    go false et u eu = ne_eqb (area_party a p) (area_party i q) (λ e. eqb-false a i et (omega (arith, e)))
-
-module _ (b : Book) (acc : List Record) (s : Sound b) (k : Kept acc) (g : Agrees b acc) where
+module _ (b : Book) (acc : List Decoded) (s : Sound b) (k : Kept acc) (g : Agrees b acc) where
   -- a new unit has no hours
   new_unit_lem : (u : UnitRecord) (j : ℕ) → within 1 unit_count u.unit ≡ true → is_entered (unit_of acc (unit_index u.unit)).unit ≡ false
       → get_or (set b.units (unit_index u.unit) (new_unit u)) j no_entry
@@ -128,49 +109,36 @@ module _ (b : Book) (acc : List Record) (s : Sound b) (k : Kept acc) (g : Agrees
       (λ q. rw (named_index unit_count h.unit j ok q, g.year, g.units j)) refl
 
   load_stored : (l : LoadRecord) (a p : ℕ) → within 1 area_count l.area ≡ true → within 1 party_count l.party ≡ true
-      → obligation_in (set b.obligations (area_party (area_index l.area) (party_index l.party)) l.obligation) a p
+      → obligation_in (obligations_after b l) a p
       ≡ cond (eqb l.area (a + 1) && eqb l.party (p + 1)) l.obligation (latest_obligation acc a p)
-  load_stored l a p area party = go (ltb p party_count) refl (g.obligations a p)
+  load_stored l a p area party =
+      ap (λ (row : List ℕ). element row p) (keyed area_count l.area b.obligations _ no_obligations a area s.obligations.long refl) ∙ go (eqb l.area (a + 1)) refl
     where
-      i : ℕ
-      i = area_party (area_index l.area) (party_index l.party)
+      row : ℕ → List ℕ
+      row i = get_or b.obligations i no_obligations
 
-      in_party : party_index l.party < party_count
-      in_party = index_below party_count l.party (omega arith)
-
-      inside : i < length b.obligations
-      inside = omega (arith, s.obligations.long, index_below area_count l.area (omega arith), in_party)
-
-      go : (t : Bool) → ltb p party_count ≡ t → cond t (get_or b.obligations (area_party a p) 0) 0 ≡ latest_obligation acc a p
-          → cond t (get_or (set b.obligations i l.obligation) (area_party a p) 0) 0
-          ≡ cond (eqb l.area (a + 1) && eqb l.party (p + 1)) l.obligation (latest_obligation acc a p)
-      go true q e =
-          stored_at b.obligations i (area_party a p) l.obligation 0 inside
-          ∙ rw (
-            same_index (area_index l.area) (party_index l.party) a p in_party (ltb-true p party_count q),
-            named_by area_count l.area a area,
-            named_by party_count l.party p party,
-            e,
-          )
-      go false q e =
-          let other : eqb l.party (p + 1) ≡ false = ne_eqb l.party (p + 1) (λ n. omega (arith, ltb-false p party_count q, within_to 1 party_count l.party party, n)) in
-          rw (other, and-false) e
+      go : (t : Bool) → eqb l.area (a + 1) ≡ t
+          → element (cond t (set (row (area_index l.area)) (party_index l.party) l.obligation) (row a)) p
+          ≡ cond (t && eqb l.party (p + 1)) l.obligation (latest_obligation acc a p)
+      go true q = rw (named_index area_count l.area a area q) (keyed party_count l.party (row a) l.obligation 0 p party (s.obligations.each a).long (g.obligations a p))
+      go false q = g.obligations a p
 
   due_posted : (n a p : ℕ) → within 1 area_count n ≡ true → a < area_count → p < party_count
       → posted_in (posted_after b (area_index n)) a p ≡ cond (eqb n (a + 1)) (reckoned_due acc a p) (reckoned_paid acc a p)
   unfolding reckoned_due posted_after
   due_posted n a p ok ha hp =
-      ap (λ (c : Cents). c.0) (element_below pair_count _ (area_party a p) (cents (pos 0)) (omega arith))
-      ∙ rw (area_of a p hp, party_of a p hp, named_by area_count n a ok, agreed_facts b acc g)
-      (paired (λ (c : Cents) z. c.0 ≡ z) (eqb n (a + 1)) (λ q. rw (named_index area_count n a ok q)) (g.posted a p ha hp))
+      ap (λ (row : List Cents). (get_or row p (cents (pos 0))).0) (keyed area_count n b.posted _ no_sums a ok s.posted.long refl)
+      ∙ paired (λ (row : List Cents) z. (get_or row p (cents (pos 0))).0 ≡ z) (eqb n (a + 1))
+      (λ q. ap (λ (c : Cents). c.0) (element_below party_count _ p (cents (pos 0)) hp) ∙ rw (named_index area_count n a ok q, agreed_facts b acc g))
+      (g.posted a p ha hp)
 
   -- the book after an accepted record, and the list with it
-  module _ (r : Record) (ok : Accepted (asked (facts_of_list acc) r) r) where
+  module _ (r : Decoded) (ok : Accepted (asked (facts_of_list acc) r) r) where
     -- a Year comes before all units
     unit_agrees : (j : ℕ) → get_or (units_after b r) j no_entry ≡ unit_in (r ∷ acc) j
     unfolding year_of unit_of accepted_hours facts_of_list sum_over last_index
     unit_agrees j =
-        let P : Record → Type 0 = λ x. get_or (units_after b x) j no_entry ≡ unit_in (x ∷ acc) j in
+        let P : Decoded → Type 0 = λ x. get_or (units_after b x) j no_entry ≡ unit_in (x ∷ acc) j in
         by_kind P r year_format tt (λ q. g.units j ∙ rw (before_year acc k r ok q))
         (λ y. by_kind P r unit_format tt (λ q. new_unit_lem _ j (fit ok unit_format tt q).0 (as_made (facts_of_list acc) r ok unit_format tt q).first_unit)
         (λ u. by_kind P r hour_format tt (λ q. hour_more _ j (fit ok hour_format tt q).0) (λ h. rw (y, u, h) (g.units j))))

@@ -1,5 +1,5 @@
 -- The definitions give figures a to j.
-use Rattle.std.proofs.Common.{map, List, [], ◌∷◌, ◌++◌, refl, ℕ}
+use Rattle.std.proofs.Common.{Ok, map, List, [], ◌∷◌, ◌++◌, refl, ℕ}
 use Rattle.numbers.specs.Range.{within}
 use Rattle.numbers.specs.Rows.{EachGiven}
 use Rattle.numbers.specs.Lists.{list_below}
@@ -15,9 +15,9 @@ use Rattle.capacity.proofs.AllFigures.{capacity_figures}
 use Rattle.money.specs.Figures.{credit_rows}
 use Rattle.money.proofs.AllFigures.{credit_figures}
 use Rattle.records.specs.Format.{number_at}
-use Rattle.records.specs.declared.format.Record.{Record}
 use Rattle.records.specs.declared.format.Record.TheVariants.{Year, Area, Unit, Commitment, Load, Post}
 use Rattle.records.specs.Decoded.{is_broken, of_length, framed, decoded}
+use Rattle.records.specs.Kinds.{Decoded}
 use Rattle.rules.specs.Refusal.{days_fit, numbers_fit, in_range, refusal_of}
 use Rattle.rules.specs.Rules.{index}
 use Rattle.promise.specs.Reckoning.{year_of, latest_area, unit_of, latest_commitment, latest_obligation, accepted_hours, sum_over, last_index, facts_of_list}
@@ -29,39 +29,39 @@ use Rattle.promise.proofs.Example.{area₁, unit₁, unit₂, commitment₁, com
 use Rattle.promise.proofs.Example.{unloaded_number, first_lines_lem, second_lines}
 
 -- the lists as the strings are accepted
-abbrev after₂ : List Record
-after₂ = Area (area₁ 9000) ∷ Year 2010 ∷ []
+abbrev after₂ : List Decoded
+after₂ = Ok (Area (area₁ 9000)) ∷ Ok (Year 2010) ∷ []
 
-abbrev after₄ : List Record
-after₄ = Unit unit₂ ∷ Unit unit₁ ∷ after₂
+abbrev after₄ : List Decoded
+after₄ = Ok (Unit unit₂) ∷ Ok (Unit unit₁) ∷ after₂
 
-pub before_loads_run : (ss : List (List ℕ)) {rest : List Answered} {after : List Record} → Fed unloaded ss rest after
+pub before_loads_run : (ss : List (List ℕ)) {rest : List Answered} {after : List Decoded} → Fed unloaded ss rest after
     → Fed [] (before_loads ++ ss) (before_loads_answers ++ rest) after
 unfolding number_at is_broken of_length framed decoded within index leap_year delivery_days days_fit numbers_fit in_range refusal_of list_below
     year_of latest_area unit_of latest_commitment latest_obligation accepted_hours sum_over last_index facts_of_list
 before_loads_run ss more =
-    accepted_next (year 2010) (Year 2010) [] _ refl refl refl
-    (accepted_next (area 1 9000) (Area (area₁ 9000)) (Year 2010 ∷ []) _ refl refl refl
-    (accepted_next (unit 1 1 4500000 30000 5000 15000 0) (Unit unit₁) after₂ _ refl refl refl
-    (accepted_next (unit 2 1 1000000 0 10000 0 0) (Unit unit₂) (Unit unit₁ ∷ after₂) _ refl refl refl
-    (accepted_next (commitment 1 1 5 0 364 4000000) (Commitment commitment₁) after₄ _ refl refl refl
-    (accepted_next (commitment 2 2 6 0 364 1000000) (Commitment commitment₂) (Commitment commitment₁ ∷ after₄) ss refl refl refl more)))))
+    accepted_next (year 2010) (Ok (Year 2010)) [] _ refl refl refl
+    (accepted_next (area 1 9000) (Ok (Area (area₁ 9000))) (Ok (Year 2010) ∷ []) _ refl refl refl
+    (accepted_next (unit 1 1 4500000 30000 5000 15000 0) (Ok (Unit unit₁)) after₂ _ refl refl refl
+    (accepted_next (unit 2 1 1000000 0 10000 0 0) (Ok (Unit unit₂)) (Ok (Unit unit₁) ∷ after₂) _ refl refl refl
+    (accepted_next (commitment 1 1 5 0 364 4000000) (Ok (Commitment commitment₁)) after₄ _ refl refl refl
+    (accepted_next (commitment 2 2 6 0 364 1000000) (Ok (Commitment commitment₂)) (Ok (Commitment commitment₁) ∷ after₄) ss refl refl refl more)))))
 
 reckoned_figures : EachGiven FigureGiven reckoned_rows
 unfolding number_at is_broken of_length framed decoded within index numbers_fit in_range refusal_of list_below year_of latest_area facts_of_list
 reckoned_figures = (
   (before_loads_run _
-      (accepted_next (load 1 5 500000) (Load load₅) unloaded _ refl refl refl
-      (accepted_next (load 1 7 600000) (Load load₇) (Load load₅ ∷ unloaded) _ refl refl refl
-      (accepted_next (post 1) (Post 1) loaded _ refl first_number first_lines_lem
-      (accepted_next (post 1) (Post 1) (Post 1 ∷ loaded) _ refl second_number second_lines
-      (refused_next (post 2) (Post 2) (Post 1 ∷ Post 1 ∷ loaded) [] 7 refl refl refl (none_next (Post 1 ∷ Post 1 ∷ loaded)))))))
+      (accepted_next (load 1 5 500000) (Ok (Load load₅)) unloaded _ refl refl refl
+      (accepted_next (load 1 7 600000) (Ok (Load load₇)) (Ok (Load load₅) ∷ unloaded) _ refl refl refl
+      (accepted_next (post 1) (Ok (Post 1)) loaded _ refl first_number first_lines_lem
+      (accepted_next (post 1) (Ok (Post 1)) (Ok (Post 1) ∷ loaded) _ refl second_number second_lines
+      (refused_next (post 2) (Ok (Post 2)) (Ok (Post 1) ∷ Ok (Post 1) ∷ loaded) [] 7 refl refl refl (none_next (Ok (Post 1) ∷ Ok (Post 1) ∷ loaded)))))))
       ).answers_are,
   (
     (before_loads_run _
-        (refused_next (post 1) (Post 1) unloaded _ 11 refl refl unloaded_number
-        (refused_next (post 1) (Post 1) unloaded _ 11 refl refl unloaded_number
-        (refused_next (post 2) (Post 2) unloaded [] 7 refl refl refl (none_next unloaded))))
+        (refused_next (post 1) (Ok (Post 1)) unloaded _ 11 refl refl unloaded_number
+        (refused_next (post 1) (Ok (Post 1)) unloaded _ 11 refl refl unloaded_number
+        (refused_next (post 2) (Ok (Post 2)) unloaded [] 7 refl refl refl (none_next unloaded))))
         ).answers_are,
     tt,
   ),

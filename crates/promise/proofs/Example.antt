@@ -1,5 +1,5 @@
 -- The worked example of 01, The ledger program: its facts, nets and dues.
-use Rattle.std.proofs.Common.{◌≡◌, refl, sym, ap, ◌∙◌, Bool, true, false, cond, List, [], ◌∷◌, ℕ, zero, suc, ◌+◌, ◌<◌, arith, ℤ, pos, neg_ℤ, ◌+ℤ◌}
+use Rattle.std.proofs.Common.{Ok, ◌≡◌, refl, sym, ap, ◌∙◌, Bool, true, false, cond, List, [], ◌∷◌, ℕ, zero, suc, ◌+◌, ◌<◌, arith, ℤ, pos, neg_ℤ, ◌+ℤ◌}
 use Rattle.std.proofs.Common.{eqb, get_or, ne_eqb}
 use lib.IntN.{+ℤ_idr}
 use Rattle.numbers.specs.Sum.{sum_below}
@@ -23,9 +23,9 @@ use Rattle.records.specs.declared.format.AreaRecord.{AreaRecord}
 use Rattle.records.specs.declared.format.UnitRecord.{UnitRecord}
 use Rattle.records.specs.declared.format.CommitmentRecord.{CommitmentRecord}
 use Rattle.records.specs.declared.format.LoadRecord.{LoadRecord}
-use Rattle.records.specs.declared.format.Record.{Record}
 use Rattle.records.specs.declared.format.Record.TheVariants.{Year, Area, Unit, Commitment, Load, Post}
 use Rattle.records.specs.Format.{party_count}
+use Rattle.records.specs.Kinds.{Decoded}
 use Rattle.rules.specs.Facts.{Facts, no_area, no_unit, no_commitment, no_hours}
 use Rattle.rules.specs.Refusal.{numbers_fit, in_range, refusal_of}
 use Rattle.rules.specs.Rules.{index, asked}
@@ -57,11 +57,11 @@ load₅ = record { area = 1; party = 5; obligation = 500000 }
 abbrev pub load₇ : LoadRecord
 load₇ = record { area = 1; party = 7; obligation = 600000 }
 
-abbrev pub unloaded : List Record
-unloaded = Commitment commitment₂ ∷ Commitment commitment₁ ∷ Unit unit₂ ∷ Unit unit₁ ∷ Area (area₁ 9000) ∷ Year 2010 ∷ []
+abbrev pub unloaded : List Decoded
+unloaded = Ok (Commitment commitment₂) ∷ Ok (Commitment commitment₁) ∷ Ok (Unit unit₂) ∷ Ok (Unit unit₁) ∷ Ok (Area (area₁ 9000)) ∷ Ok (Year 2010) ∷ []
 
-abbrev pub loaded : List Record
-loaded = Load load₇ ∷ Load load₅ ∷ unloaded
+abbrev pub loaded : List Decoded
+loaded = Ok (Load load₇) ∷ Ok (Load load₅) ∷ unloaded
 
 -- The facts of the example's area, units and commitments, whatever price, obligations and hours. Computing row j at one go
 -- takes far too long; these facts, the nets and the dues are each written out and computed from what comes before.
@@ -147,16 +147,16 @@ module _ (price : ℕ) (o : ℕ → ℕ → ℕ) (hours : ℕ → HourCounts) (l
     unfolding undistributed_in delivery_days leap_year
     distributed_is e = undistributed_same (net_in facts 0) (amount_of nets) price 365 (o 0) (element obligations) nets_are (by_list party_count _ obligations 0 l) ∙ e
 
-    pub post_accepted : is_undistributed (amount_of nets) price 365 (element obligations) ≡ false → refusal_of (asked facts (Post 1)) (Post 1) ≡ 0
+    pub post_accepted : is_undistributed (amount_of nets) price 365 (element obligations) ≡ false → refusal_of (asked facts (Ok (Post 1))) (Ok (Post 1)) ≡ 0
     unfolding within numbers_fit in_range refusal_of index
     post_accepted e = rw (distributed_is e)
 
-    pub post_refused : is_undistributed (amount_of nets) price 365 (element obligations) ≡ true → refusal_of (asked facts (Post 1)) (Post 1) ≡ 11
+    pub post_refused : is_undistributed (amount_of nets) price 365 (element obligations) ≡ true → refusal_of (asked facts (Ok (Post 1))) (Ok (Post 1)) ≡ 11
     unfolding within numbers_fit in_range refusal_of index
     post_refused e = rw (distributed_is e)
 
 -- the lines of a Post, from its dues and what was paid before
-pub lines_are : (acc : List Record) (dues : List ℤ) (paid : ℕ → ℤ) → ((p : ℕ) → p < party_count → reckoned_due acc 0 p ≡ amount_of dues p)
+pub lines_are : (acc : List Decoded) (dues : List ℤ) (paid : ℕ → ℤ) → ((p : ℕ) → p < party_count → reckoned_due acc 0 p ≡ amount_of dues p)
     → ((p : ℕ) → p < party_count → reckoned_paid acc 0 p ≡ paid p) → list_below party_count (reckoned_line acc 0) ≡ list_below party_count (λ p. line (amount_of dues p) (paid p))
 unfolding reckoned_line
 lines_are acc dues paid d e =
@@ -219,16 +219,16 @@ dues_loaded p h =
     ap (λ (F : Facts). due_in F 0 p) facts_loaded
     ∙ dues_are 9000 (latest_obligation loaded) none no_last (nets_listed (latest_obligation loaded)) obligations_listed dues_listed p h
 
-post_loaded : refusal_of (asked (example 9000 (latest_obligation loaded) none no_last) (Post 1)) (Post 1) ≡ 0
+post_loaded : refusal_of (asked (example 9000 (latest_obligation loaded) none no_last) (Ok (Post 1))) (Ok (Post 1)) ≡ 0
 post_loaded = post_accepted 9000 (latest_obligation loaded) none no_last (nets_listed (latest_obligation loaded)) obligations_listed distributed
 
-pub first_number : refusal_of (asked (facts_of_list loaded) (Post 1)) (Post 1) ≡ 0
+pub first_number : refusal_of (asked (facts_of_list loaded) (Ok (Post 1))) (Ok (Post 1)) ≡ 0
 first_number = rw facts_loaded post_loaded
 
-pub second_number : refusal_of (asked (facts_of_list (Post 1 ∷ loaded)) (Post 1)) (Post 1) ≡ 0
+pub second_number : refusal_of (asked (facts_of_list (Ok (Post 1) ∷ loaded)) (Ok (Post 1))) (Ok (Post 1)) ≡ 0
 second_number = rw (post_keeps 1 loaded, facts_loaded) post_loaded
 
-pub unloaded_number : refusal_of (asked (facts_of_list unloaded) (Post 1)) (Post 1) ≡ 11
+pub unloaded_number : refusal_of (asked (facts_of_list unloaded) (Ok (Post 1))) (Ok (Post 1)) ≡ 11
 unloaded_number = rw facts_unloaded (post_refused 9000 (λ a p. 0) none no_last (nets_listed (λ a p. 0)) none_listed not_distributed)
 
 -- its lines, the first time and the second
@@ -236,7 +236,7 @@ pub first_lines_lem : list_below party_count (reckoned_line loaded 0) ≡ first_
 unfolding list_below reckoned_paid line
 first_lines_lem = lines_are loaded first_lines (λ p. pos 0) dues_loaded (λ p h. refl) ∙ refl
 
-pub second_lines : list_below party_count (reckoned_line (Post 1 ∷ loaded) 0) ≡ no_lines
+pub second_lines : list_below party_count (reckoned_line (Ok (Post 1) ∷ loaded) 0) ≡ no_lines
 unfolding list_below reckoned_paid reckoned_due line
 second_lines =
-    lines_are (Post 1 ∷ loaded) first_lines (amount_of first_lines) (λ p h. rw (post_keeps 1 loaded) (dues_loaded p h)) (λ p h. dues_loaded p h) ∙ refl
+    lines_are (Ok (Post 1) ∷ loaded) first_lines (amount_of first_lines) (λ p h. rw (post_keeps 1 loaded) (dues_loaded p h)) (λ p h. dues_loaded p h) ∙ refl

@@ -1,13 +1,12 @@
 -- The book and the list, string after string: every book reached is sound and holds what the list holds.
 use Rattle.std.proofs.Common.{◌≡◌, refl, sym, ap, ◌∙◌, Bool, true, false, List, [], ◌∷◌, ℕ, eqb, eqb-true}
 use Rattle.records.specs.Decoded.{decoded}
-use Rattle.records.specs.declared.format.Record.{Record}
+use Rattle.records.specs.Kinds.{Decoded}
 use Rattle.rules.specs.Rules.{asked, refusal}
 use Rattle.rules.specs.Refusal.{refusal_of}
 use Rattle.rules.specs.Facts.{Facts}
 use Rattle.rules.proofs.AcceptedRows.{Accepted, accepted}
-use Rattle.book.specs.declared.Book.{Book}
-use Rattle.book.specs.Books.{facts_of_book, empty_book, Sound}
+use Rattle.book.specs.Books.{Book, facts_of_book, empty_book, Sound}
 use Rattle.book.specs.Entered.{after, no_lines, lines_of, answer, entered, book_after}
 use Rattle.book.proofs.AreaMoney.{due_most_lem}
 use Rattle.book.proofs.Soundness.{empty_sound, after_sound}
@@ -17,7 +16,7 @@ use Rattle.promise.proofs.Runs.{list_after, list_kept}
 use Rattle.promise.proofs.AcceptedLists.{Kept, kept_none, kept_more}
 use Rattle.promise.proofs.Agreement.{Agrees, agreed_facts, agrees_none, agrees_more}
 
-pub record Meets (b : Book) (acc : List Record) : Type 0 where
+pub record Meets (b : Book) (acc : List Decoded) : Type 0 where
   pub sound : Sound b
   pub agrees : Agrees b acc
   pub kept : Kept acc
@@ -38,7 +37,7 @@ rows_of : (F : Facts) (s : List ℕ) → refusal F s ≡ refusal_of (asked F (de
 unfolding refusal
 rows_of F s = refl
 
-module _ (b : Book) (acc : List Record) (m : Meets b acc) (s : List ℕ) where
+module _ (b : Book) (acc : List Decoded) (m : Meets b acc) (s : List ℕ) where
   pub same_number : refusal (facts_of_book b) s ≡ number_for acc s
   same_number = ap (λ (F : Facts). refusal F s) (agreed_facts b acc m.agrees)
 
@@ -72,7 +71,7 @@ module _ (b : Book) (acc : List Record) (m : Meets b acc) (s : List ℕ) where
       go false q = rw (book_kept q, list_kept acc s q) m
 
 -- after every list of strings
-pub all_meet : (b : Book) (acc : List Record) → Meets b acc → (ss : List (List ℕ)) → Meets (book_after b ss) (accepted_of acc ss)
+pub all_meet : (b : Book) (acc : List Decoded) → Meets b acc → (ss : List (List ℕ)) → Meets (book_after b ss) (accepted_of acc ss)
 unfolding accepted_of
 all_meet b acc m [] = m
 all_meet b acc m (s ∷ ss) = all_meet (entered b s).book (accepted_with acc s) (meets_next b acc m s) ss

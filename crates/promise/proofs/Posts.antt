@@ -1,5 +1,5 @@
 -- A string's lines, in the book and in the reckoning.
-use Rattle.std.proofs.Common.{◌≡◌, refl, sym, ap, ◌∙◌, Bool, true, false, cond, true≢false, ◌&&◌, List, ◌∷◌, ℕ, ◌+◌, ◌-◌, ◌<◌, arith, ℤ, pos, ◌+ℤ◌}
+use Rattle.std.proofs.Common.{Ok, ◌≡◌, refl, sym, ap, ◌∙◌, Bool, true, false, cond, true≢false, ◌&&◌, List, ◌∷◌, ℕ, ◌+◌, ◌-◌, ◌<◌, arith, ℤ, pos, ◌+ℤ◌}
 use Rattle.std.proofs.Common.{eqb, eqb-true, eq-eqb}
 use lib.IntN.{+ℤ_idl, +ℤ_idr}
 use Rattle.numbers.specs.Range.{within}
@@ -10,15 +10,14 @@ use Rattle.numbers.proofs.Lists.{element_below, list_same}
 use Rattle.numbers.proofs.SignedSums.{sum_same_ℤ, sum_add_ℤ}
 use Rattle.money.specs.Quantities.{cents, cents_of}
 use Rattle.money.specs.declared.Cents.{Cents}
-use Rattle.records.specs.declared.format.Record.{Record}
 use Rattle.records.specs.declared.format.Record.TheVariants.{Post}
 use Rattle.records.specs.Format.{area_count, party_count, post_format}
 use Rattle.records.specs.Decoded.{decoded}
-use Rattle.records.specs.Kinds.{numbers_of, is_of, of_post}
+use Rattle.records.specs.Kinds.{Decoded, numbers_of, is_of, of_post}
 use Rattle.rules.specs.Rules.{area_index}
 use Rattle.rules.proofs.Named.{index_in_range}
 use Rattle.rules.proofs.ByKind.{paired, by_key, fit, by_kind}
-use Rattle.book.specs.declared.Book.{Book}
+use Rattle.book.specs.Books.{Book}
 use Rattle.book.specs.Entered.{no_lines, post_lines, entered}
 use Rattle.promise.specs.Reckoning.{year_of, latest_area, unit_of, latest_commitment, latest_obligation, accepted_hours, facts_of_list, number_for, accepted_with}
 use Rattle.promise.specs.Reckoning.{reckoned_due, reckoned_paid, reckoned_line, line_for, answer_for}
@@ -30,23 +29,23 @@ use Rattle.promise.proofs.Runs.{list_after, list_kept}
 use Rattle.promise.proofs.Meeting.{Meets, number_met, accepted_by, book_after_lem, book_kept, meets_next}
 
 -- the test of a Post of area a
-is_post_lem : (a : ℕ) (r : Record) → of_post false (λ n. eqb n (a + 1)) r ≡ true → r ≡ Post (a + 1)
+is_post_lem : (a : ℕ) (r : Decoded) → of_post false (λ n. eqb n (a + 1)) r ≡ true → r ≡ Ok (Post (a + 1))
 is_post_lem a r =
-    by_kind (λ x. of_post false (λ n. eqb n (a + 1)) x ≡ true → x ≡ Post (a + 1)) r post_format tt
-    (λ q e. ap Post (eqb-true (element (numbers_of r) 0) (a + 1) e)) (λ q e. absurd (true≢false (sym (rw q at e))))
+    by_kind (λ x. of_post false (λ n. eqb n (a + 1)) x ≡ true → x ≡ Ok (Post (a + 1))) r post_format tt
+    (λ q e. ap (λ (n : ℕ). Ok (Post n)) (eqb-true (element (numbers_of r) 0) (a + 1) e)) (λ q e. absurd (true≢false (sym (rw q at e))))
 
 -- a Post changes no fact
-pub post_keeps : (n : ℕ) (acc : List Record) → facts_of_list (Post n ∷ acc) ≡ facts_of_list acc
+pub post_keeps : (n : ℕ) (acc : List Decoded) → facts_of_list (Ok (Post n) ∷ acc) ≡ facts_of_list acc
 unfolding facts_of_list year_of latest_area unit_of latest_commitment latest_obligation accepted_hours
 post_keeps n acc = refl
 
 -- no other record moves what is paid in area a
-other_paid : (acc : List Record) (a p : ℕ) (r : Record) → of_post false (λ n. eqb n (a + 1)) r ≡ false → reckoned_paid (r ∷ acc) a p ≡ reckoned_paid acc a p
+other_paid : (acc : List Decoded) (a p : ℕ) (r : Decoded) → of_post false (λ n. eqb n (a + 1)) r ≡ false → reckoned_paid (r ∷ acc) a p ≡ reckoned_paid acc a p
 unfolding reckoned_paid
 other_paid acc a p r e =
     by_key (λ z. z ≡ reckoned_paid acc a p) (is_of post_format r) (eqb (element (numbers_of r) 0) (a + 1)) (λ q k. absurd (true≢false (rw (q, k) at e))) refl
 
-module _ (b : Book) (acc : List Record) (m : Meets b acc) (s : List ℕ) where
+module _ (b : Book) (acc : List Decoded) (m : Meets b acc) (s : List ℕ) where
   -- the entry that s makes
   abbrev pub entry : Entry
   entry = record { string = s; answer = entered b s }
@@ -54,7 +53,7 @@ module _ (b : Book) (acc : List Record) (m : Meets b acc) (s : List ℕ) where
   -- an accepted Post of area a
   pub record Posted (a : ℕ) : Type 0 where
     number : number_for acc s ≡ 0
-    is_a_post : decoded s ≡ Post (a + 1)
+    is_a_post : decoded s ≡ Ok (Post (a + 1))
 
   pub posted_by : (a : ℕ) → is_post a entry ≡ true → Posted a
   posted_by a q =

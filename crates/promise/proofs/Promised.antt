@@ -4,10 +4,9 @@ use mathlib.Core.List.Memᴰ
 use mathlib.Core.List.{Memᴰ}
 use lib.IntN.{+ℤ_idl, +ℤ_idr, +ℤ_assoc}
 use Rattle.numbers.specs.Signed.{sum_below_ℤ}
-use Rattle.records.specs.declared.format.Record.{Record}
 use Rattle.records.specs.Format.{party_count}
-use Rattle.book.specs.declared.Book.{Book}
-use Rattle.book.specs.Books.{empty_book}
+use Rattle.records.specs.Kinds.{Decoded}
+use Rattle.book.specs.Books.{Book, empty_book}
 use Rattle.book.specs.Entered.{entered}
 use Rattle.promise.specs.Reckoning.{Answered, accepted_with, reckoned_due, reckoned_paid, answers_of, accepted_of}
 use Rattle.promise.specs.Standing.{SameStanding}
@@ -19,7 +18,7 @@ use Rattle.promise.proofs.Posts.{entry, posted_by, answer_met, paid_more, paid_d
 use Rattle.promise.proofs.StandingFacts.{standing_dues}
 
 -- numbers
-same_numbers : (b : Book) (acc : List Record) → Meets b acc → (ss : List (List ℕ))
+same_numbers : (b : Book) (acc : List Decoded) → Meets b acc → (ss : List (List ℕ))
     → map number_of (run b ss) ≡ map (λ (r : Answered). r.number) (answers_of acc ss)
 unfolding run answers_of
 same_numbers b acc m [] = refl
@@ -27,7 +26,7 @@ same_numbers b acc m (s ∷ ss) =
     rw (number_met b acc m s, same_numbers (entered b s).book (accepted_with acc s) (meets_next b acc m s) ss)
 
 -- the lines so far and those of the strings to come are what is paid in the end
-total_paid : (b : Book) (acc : List Record) → Meets b acc → (ss : List (List ℕ)) (a p : ℕ) → p < party_count
+total_paid : (b : Book) (acc : List Decoded) → Meets b acc → (ss : List (List ℕ)) (a p : ℕ) → p < party_count
     → reckoned_paid acc a p +ℤ total a p (run b ss) ≡ reckoned_paid (accepted_of acc ss) a p
 unfolding run total accepted_of
 total_paid b acc m [] a p h = +ℤ_idr (reckoned_paid acc a p)
@@ -36,7 +35,7 @@ total_paid b acc m (s ∷ ss) a p h =
     ∙ rw (sym (paid_more b acc m s a p h)) (total_paid (entered b s).book (accepted_with acc s) (meets_next b acc m s) ss a p h)
 
 -- at an accepted Post of the area that is the due
-ended_due : (b : Book) (acc : List Record) → Meets b acc → (ss : List (List ℕ)) (a p : ℕ) → ends_in_post a (run b ss) ≡ true
+ended_due : (b : Book) (acc : List Decoded) → Meets b acc → (ss : List (List ℕ)) (a p : ℕ) → ends_in_post a (run b ss) ≡ true
     → reckoned_paid (accepted_of acc ss) a p ≡ reckoned_due (accepted_of acc ss) a p
 unfolding run ends_in_post accepted_of
 ended_due b acc m [] a p q = absurd (true≢false (sym q))
@@ -51,7 +50,7 @@ totals_due ss a p h q =
     sym (+ℤ_idl (total a p (from_empty ss))) ∙ total_paid empty_book [] meets_none ss a p h ∙ ended_due empty_book [] meets_none ss a p q
 
 -- balanced
-each_balanced : (b : Book) (acc : List Record) → Meets b acc → (ss : List (List ℕ)) (a : ℕ) (e : Entry) → Memᴰ e (run b ss) → is_post a e ≡ true
+each_balanced : (b : Book) (acc : List Decoded) → Meets b acc → (ss : List (List ℕ)) (a : ℕ) (e : Entry) → Memᴰ e (run b ss) → is_post a e ≡ true
     → sum_below_ℤ party_count (line_of e) ≡ pos 0
 unfolding run
 each_balanced b acc m [] a e i q = absurd (Memᴰ.not-nil i)
@@ -79,7 +78,7 @@ promise_kept =
     }
 
 -- the answers with their lines
-answers_met : (b : Book) (acc : List Record) → Meets b acc → (ss : List (List ℕ)) → map answered (run b ss) ≡ answers_of acc ss
+answers_met : (b : Book) (acc : List Decoded) → Meets b acc → (ss : List (List ℕ)) → map answered (run b ss) ≡ answers_of acc ss
 unfolding run answers_of
 answers_met b acc m [] = refl
 answers_met b acc m (s ∷ ss) =

@@ -1,21 +1,20 @@
 -- No string more and one string more, fed to the fresh reckoning.
 use Rattle.std.proofs.Common.{◌≡◌, refl, false, List, [], ◌∷◌, ℕ, ◌-◌, ℤ, pos, eqb}
 use Rattle.numbers.specs.Lists.{list_below}
-use Rattle.records.specs.declared.format.Record.{Record}
 use Rattle.records.specs.Format.{party_count}
 use Rattle.records.specs.Decoded.{decoded}
-use Rattle.records.specs.Kinds.{of_post}
+use Rattle.records.specs.Kinds.{Decoded, of_post}
 use Rattle.rules.specs.Refusal.{refusal_of}
 use Rattle.rules.specs.Facts.{Facts}
 use Rattle.rules.specs.Rules.{asked, refusal}
 use Rattle.promise.specs.Reckoning.{facts_of_list, Answered, number_for, accepted_with, reckoned_line, line_for, answers_of, accepted_of}
 use Rattle.promise.specs.Figures.{answer, no_lines}
 
-number_of : (F : Facts) (s : List ℕ) (r : Record) (n : ℕ) → decoded s ≡ r → refusal_of (asked F r) r ≡ n → refusal F s ≡ n
+number_of : (F : Facts) (s : List ℕ) (r : Decoded) (n : ℕ) → decoded s ≡ r → refusal_of (asked F r) r ≡ n → refusal F s ≡ n
 unfolding refusal
 number_of F s r n d e = rw d e
 
-module _ (acc : List Record) (s : List ℕ) where
+module _ (acc : List Decoded) (s : List ℕ) where
   -- the list after an accepted string, and after a refused one
   pub list_after : number_for acc s ≡ 0 → accepted_with acc s ≡ decoded s ∷ acc
   unfolding accepted_with
@@ -26,15 +25,15 @@ module _ (acc : List Record) (s : List ℕ) where
   list_kept q = rw q
 
 -- what strings are answered with, from a list on, and the list after them
-pub record Fed (acc : List Record) (ss : List (List ℕ)) (answers : List Answered) (after : List Record) : Type 0 where
+pub record Fed (acc : List Decoded) (ss : List (List ℕ)) (answers : List Answered) (after : List Decoded) : Type 0 where
   pub answers_are : answers_of acc ss ≡ answers
   pub list_is : accepted_of acc ss ≡ after
 
-pub none_next : (acc : List Record) → Fed acc [] [] acc
+pub none_next : (acc : List Decoded) → Fed acc [] [] acc
 unfolding answers_of accepted_of
 none_next acc = record { answers_are = refl; list_is = refl }
 
-module _ (s : List ℕ) (r : Record) (acc : List Record) (ss : List (List ℕ)) {rest : List Answered} {after : List Record} where
+module _ (s : List ℕ) (r : Decoded) (acc : List Decoded) (ss : List (List ℕ)) {rest : List Answered} {after : List Decoded} where
   pub accepted_next : {lines : List ℤ} → decoded s ≡ r → refusal_of (asked (facts_of_list acc) r) r ≡ 0
       → list_below party_count (λ p. of_post (pos 0) (λ n. reckoned_line acc (n - 1) p) r) ≡ lines
       → Fed (r ∷ acc) ss rest after → Fed acc (s ∷ ss) (answer 0 lines ∷ rest) after

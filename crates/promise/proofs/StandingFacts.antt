@@ -1,6 +1,6 @@
 -- Dues depend on the standing facts alone.
 use Rattle.std.proofs.Common.{◌≡◌, ap, List, ℕ}
-use Rattle.records.specs.declared.format.Record.{Record}
+use Rattle.records.specs.Kinds.{Decoded}
 use Rattle.rules.specs.Facts.{Facts}
 use Rattle.rules.specs.Dues.{due_in}
 use Rattle.promise.specs.Reckoning.{year_of, accepted_hours, counts_of, last_index, facts_of_list, reckoned_due}
@@ -9,7 +9,7 @@ use Rattle.promise.proofs.Falling.{same_hours}
 use Rattle.promise.proofs.AcceptedLists.{Kept}
 
 -- the same standing facts give the same counts, sum and last hour of each unit
-standing_facts : (rs qs : List Record) → Kept rs → Kept qs → SameStanding rs qs → facts_of_list rs ≡ facts_of_list qs
+standing_facts : (rs qs : List Decoded) → Kept rs → Kept qs → SameStanding rs qs → facts_of_list rs ≡ facts_of_list qs
 unfolding facts_of_list
 standing_facts rs qs k l same =
     let hours : (u : ℕ) → accepted_hours rs u ≡ accepted_hours qs u = λ u. same_hours (year_of rs) (accepted_hours rs u) (accepted_hours qs u) (k.falling u) (rw same.year (l.falling u)) (same.hours u) in
@@ -23,6 +23,6 @@ standing_facts rs qs k l same =
       last = λ u. last_index (same.year i) (hours u i);
     }
 
-pub standing_dues : (rs qs : List Record) → Kept rs → Kept qs → SameStanding rs qs → (a p : ℕ) → reckoned_due rs a p ≡ reckoned_due qs a p
+pub standing_dues : (rs qs : List Decoded) → Kept rs → Kept qs → SameStanding rs qs → (a p : ℕ) → reckoned_due rs a p ≡ reckoned_due qs a p
 unfolding reckoned_due
 standing_dues rs qs k l same a p = ap (λ (F : Facts). due_in F a p) (standing_facts rs qs k l same)

@@ -1,6 +1,6 @@
 -- Strings of a slice of bytes, and values stored one after another.
 use Rattle.std.proofs.Common.{◌≡◌, refl, sym, ap, ◌∙◌, Bool, true, false, List, [], ◌∷◌, ◌++◌, map, ℕ, suc, ◌+◌, ◌-◌, ◌≤◌, ◌<◌, ◌^◌, min}
-use Rattle.std.proofs.Common.{add-one, arith, ℤ, pos, leb, length, get_or, take, drop, set, length-drop, length-set, drop_of_length-le, take_all}
+use Rattle.std.proofs.Common.{add-one, arith, ℤ, pos, leb, length, get_or, take, drop, set, length-set, drop_of_length-le}
 use Rattle.std.proofs.Common.{drop-cons, w64, to_z, of_z, to_z-of_z, leb-true, leb-false}
 use native.Mathlib.Nat.{min-eq_left, min-eq_right}
 use mathlib.Core.List.{flat_map}
@@ -10,10 +10,8 @@ use lib.ListN.{length-map, get_or-map}
 use lib.Seq.{set_out}
 use Rattle.money.specs.declared.Cents.{Cents}
 use Rattle.money.specs.Quantities.{cents}
-use Rattle.book.specs.declared.Book.{Book}
-use Rattle.book.specs.declared.Answer.{Answer}
-use Rattle.book.specs.Books.{empty_book, Sound}
-use Rattle.book.specs.Entered.{entered, book_after}
+use Rattle.book.specs.Books.{Book, empty_book}
+use Rattle.book.specs.Entered.{Answer, entered, book_after}
 use Rattle.promise.specs.Promise.{run, from_empty}
 use Rattle.promise.specs.Logs.{strings_from, strings, stored_from, stored, all_numbers, all_lines}
 
@@ -28,26 +26,6 @@ moved_back f n k same = go (leb k n) refl
     go : (t : Bool) → leb k n ≡ t → f (min k n) ≡ f k
     go true e = ap f (min-eq_left (leb-true k n e))
     go false e = let h : n ≤ k = omega (arith, leb-false k n e) in ap f (min-eq_right h) ∙ sym (same h)
-
-module _ {A : Type 0} (l : List A) where
-  take_within : (k : ℕ) → take (min k (length l)) l ≡ take k l
-  take_within k = moved_back (λ k. take k l) (length l) k (λ h. take_all k l h ∙ sym (take_all (length l) l (omega arith)))
-
-  drop_within : (k : ℕ) → drop (min k (length l)) l ≡ drop k l
-  drop_within k = moved_back (λ k. drop k l) (length l) k (λ h. drop_of_length-le l h ∙ sym (drop_of_length-le l {i = length l} (omega arith)))
-
--- a string between two places, each moved back to the end where it is past it
-module _ {A : Type 0} (l : List A) (from end : ℕ) {first last : ℕ} (p : first ≡ min from (length l)) (q : last ≡ min end (length l)) where
-  pub between_none : last < first → take (first - first) (drop first l) ≡ take (end - from) (drop from l)
-  between_none h =
-      let one : first - first ≡ 0 = omega arith in
-      let other : end - from ≡ 0 = omega arith in
-      rw (one, other)
-
-  pub between_indices : take (last - first) (drop first l) ≡ take (end - from) (drop from l)
-  between_indices =
-      let size : last - first ≡ min (end - from) (length l - from) = omega arith in
-      rw (size, p, drop_within l from, sym (length-drop from l)) (take_within (drop from l) (end - from))
 
 module _ {A : Type 0} where
   -- past the end nothing is stored
@@ -96,8 +74,8 @@ module _ {A : Type 0} where
 -- The loop of `put_lines`: what is left to store of the amounts.
 module _ (first : List ℤ) (at : ℕ) (cs : List Cents) (l : List ℤ) (k p : ℕ)
     (left : stored_from k l (drop p (amounts_of cs)) ≡ stored_from at first (amounts_of cs)) where
-  pub lines_full : length l ≤ k → l ≡ stored_from at first (amounts_of cs)
-  lines_full h = sym (stored_past k l (drop p (amounts_of cs)) h) ∙ left
+  pub lines_full : length l ≤ k → stored_from k l (drop (p + 1) (amounts_of cs)) ≡ stored_from at first (amounts_of cs)
+  lines_full h = stored_past k l (drop (p + 1) (amounts_of cs)) h ∙ sym (stored_past k l (drop p (amounts_of cs)) h) ∙ left
 
   pub lines_all : length cs ≤ p → l ≡ stored_from at first (amounts_of cs)
   lines_all h = sym (stored_all l (amounts_of cs) k p (rw length-map h)) ∙ left
@@ -141,7 +119,6 @@ pub record Going (bytes ends first_numbers : List ℕ) (first_lines : List ℤ) 
   pub room : next ≤ length lines
   pub numbers_length : length numbers ≡ length first_numbers
   pub lines_length : length lines ≡ length first_lines
-  pub sound : Sound b
   pub book_left : book_after b (strings_from from bytes (drop i ends)) ≡ book_after empty_book (strings bytes ends)
   pub numbers_left : stored_from i numbers (all_numbers (run b (strings_from from bytes (drop i ends))))
       ≡ stored_from 0 first_numbers (all_numbers (from_empty (strings bytes ends)))
@@ -149,14 +126,13 @@ pub record Going (bytes ends first_numbers : List ℕ) (first_lines : List ℤ) 
       ≡ stored_from 0 first_lines (all_lines (from_empty (strings bytes ends)))
 
 module _ (bytes ends numbers : List ℕ) (lines : List ℤ) where
-  pub going_first : {b : Book} → b ≡ empty_book → Sound b → Going bytes ends numbers lines numbers lines b 0 0 0
-  going_first e h =
+  pub going_first : {b : Book} → b ≡ empty_book → Going bytes ends numbers lines numbers lines b 0 0 0
+  going_first e =
       record {
         there = omega arith;
         room = omega arith;
         numbers_length = refl;
         lines_length = refl;
-        sound = h;
         book_left = rw e;
         numbers_left = rw e;
         lines_left = rw e;
@@ -165,10 +141,10 @@ module _ (bytes ends numbers : List ℕ) (lines : List ℤ) where
 module _ {bytes ends first_numbers numbers : List ℕ} {first_lines lines : List ℤ} {b : Book} {from next i : ℕ}
     (g : Going bytes ends first_numbers first_lines numbers lines b from next i) where
   pub going_more : {end : ℕ} {s : List ℕ} {a : Answer} → i < length ends → end ≡ get_or ends i 0 → s ≡ take (end - from) (drop from bytes)
-      → a ≡ entered b s → Sound a.book
+      → a ≡ entered b s
       → {put_numbers : List ℕ} {put_lines : List ℤ} {after : ℕ} → put_numbers ≡ set numbers i a.number → put_lines ≡ stored_from next lines (amounts_of a.lines)
       → after ≡ min (next + length a.lines) (length lines) → Going bytes ends first_numbers first_lines put_numbers put_lines a.book end after (i + 1)
-  going_more {end} {s} {a} h e part answer sound {put_numbers} {put_lines} {after} n l k =
+  going_more {end} {s} {a} h e part answer {put_numbers} {put_lines} {after} n l k =
       let ss = strings_from end bytes (drop (i + 1) ends) in
       let rest : s ∷ ss ≡ strings_from from bytes (drop i ends) = rw part (sym (strings_more from bytes ends i h e)) in
       let size : length put_lines ≡ length lines = ap length l ∙ stored_length next lines (amounts_of a.lines) in
@@ -177,7 +153,6 @@ module _ {bytes ends first_numbers numbers : List ℕ} {first_lines lines : List
         room = omega arith;
         numbers_length = ap length n ∙ length-set numbers i a.number ∙ g.numbers_length;
         lines_length = size ∙ g.lines_length;
-        sound = sound;
         book_left = book_more b s ss answer ∙ ap (book_after b) rest ∙ g.book_left;
         numbers_left =
             rw n (numbers_more b s ss answer numbers i ∙ ap (λ (x : List (List ℕ)). stored_from i numbers (all_numbers (run b x))) rest ∙ g.numbers_left);

@@ -4,8 +4,8 @@ use Rattle.numbers.proofs.Sums.{sum_same}
 use Rattle.numbers.proofs.Tests.{flipped}
 use Rattle.capacity.specs.Shortfall.{unit_watt_days, part_of, watt_days_of}
 use Rattle.capacity.proofs.Capacities as capacity
-use Rattle.records.specs.declared.format.Record.{Record}
 use Rattle.records.specs.Format.{commitment_count, party_count}
+use Rattle.records.specs.Kinds.{Decoded}
 use Rattle.rules.specs.Dues.{watt_days_for, part_for}
 use Rattle.rules.specs.Rules.{party_index}
 use Rattle.rules.proofs.Named.{index_below, named_by}
@@ -15,7 +15,7 @@ use Rattle.promise.specs.Laws.{PartsAddUp}
 use Rattle.promise.proofs.AcceptedLists.{PartyKnown, Kept}
 use Rattle.promise.proofs.Meeting.{meets_none, all_meet}
 
-module _ (acc : List Record) (k : Kept acc) (u : ℕ) where
+module _ (acc : List Decoded) (k : Kept acc) (u : ℕ) where
   -- the watt-days of each commitment, and the index of its party
   abbrev watt_days_lem : ℕ → ℕ
   watt_days_lem j = watt_days_for (facts_of_list acc).commitment u j

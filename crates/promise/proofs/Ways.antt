@@ -1,5 +1,5 @@
 -- The example that is sent in two ways.
-use Rattle.std.proofs.Common.{◌≡◌, refl, sym, ap, ◌∙◌, Bool, true, false, cond, ◌&&◌, List, [], ◌∷◌, ◌++◌, ℕ, ◌+◌, ◌<◌, arith, ℤ, pos, neg_ℤ, eqb}
+use Rattle.std.proofs.Common.{Ok, ◌≡◌, refl, sym, ap, ◌∙◌, Bool, true, false, cond, ◌&&◌, List, [], ◌∷◌, ◌++◌, ℕ, ◌+◌, ◌<◌, arith, ℤ, pos, neg_ℤ, eqb}
 use Rattle.std.proofs.Common.{eqb-true}
 use Rattle.numbers.specs.Sum.{sum_below}
 use Rattle.numbers.specs.Range.{within}
@@ -19,10 +19,10 @@ use Rattle.money.specs.AreaMoney.{priced, charge, ceiling, charges, ceilings, cr
 use Rattle.money.specs.Lines.{line}
 use Rattle.records.specs.declared.format.CommitmentRecord.{CommitmentRecord}
 use Rattle.records.specs.declared.format.HourRecord.{HourRecord}
-use Rattle.records.specs.declared.format.Record.{Record}
 use Rattle.records.specs.declared.format.Record.TheVariants.{Year, Area, Unit, Commitment, Hour, Load, Post}
 use Rattle.records.specs.Format.{party_count, number_at}
 use Rattle.records.specs.Decoded.{is_broken, of_length, framed, decoded}
+use Rattle.records.specs.Kinds.{Decoded}
 use Rattle.rules.specs.Refusal.{days_fit, derating_fits, hour_fits, numbers_fit, in_range, refusal_of}
 use Rattle.rules.specs.Hours.{hour_index, is_peak, service_hour, outage_hour, derated_watts}
 use Rattle.rules.specs.Facts.{Facts, no_area, no_unit, no_commitment}
@@ -45,26 +45,26 @@ abbrev small₁ : CommitmentRecord
 small₁ = record { number = 1; unit = 1; party = 5; first = 0; last = 364; watts = 1 }
 
 -- the lists before the last Post: one way, and the other way at the early Post and at the last
-abbrev first : List Record
-first = Hour hour₁ ∷ loaded
+abbrev first : List Decoded
+first = Ok (Hour hour₁) ∷ loaded
 
-abbrev second₂ : List Record
-second₂ = Area (area₁ 100) ∷ Year 2010 ∷ []
+abbrev second₂ : List Decoded
+second₂ = Ok (Area (area₁ 100)) ∷ Ok (Year 2010) ∷ []
 
-abbrev second₄ : List Record
-second₄ = Unit unit₁ ∷ Unit unit₂ ∷ second₂
+abbrev second₄ : List Decoded
+second₄ = Ok (Unit unit₁) ∷ Ok (Unit unit₂) ∷ second₂
 
-abbrev second₆ : List Record
-second₆ = Load load₇ ∷ Commitment small₁ ∷ second₄
+abbrev second₆ : List Decoded
+second₆ = Ok (Load load₇) ∷ Ok (Commitment small₁) ∷ second₄
 
-abbrev second₈ : List Record
-second₈ = Commitment commitment₂ ∷ Hour hour₁ ∷ second₆
+abbrev second₈ : List Decoded
+second₈ = Ok (Commitment commitment₂) ∷ Ok (Hour hour₁) ∷ second₆
 
-abbrev early : List Record
-early = Commitment commitment₁ ∷ Load load₅ ∷ second₈
+abbrev early : List Decoded
+early = Ok (Commitment commitment₁) ∷ Ok (Load load₅) ∷ second₈
 
-abbrev second : List Record
-second = Area (area₁ 9000) ∷ Post 1 ∷ early
+abbrev second : List Decoded
+second = Ok (Area (area₁ 9000)) ∷ Ok (Post 1) ∷ early
 
 -- of two tests that do not both pass, either may come first; of two of the same key the first decides
 module _ {A : Type 0} (x y z : A) where
@@ -165,13 +165,13 @@ money : (dues_at 9000 ≡ one_way_lines) × (undistributed_at 9000 ≡ false) ×
 unfolding list_below sum_below above below priced charge ceiling charges ceilings credit left load_share due is_undistributed split first_shares
 money = (refl, refl, refl, refl)
 
-module _ (acc : List Record) (price : ℕ) (f : facts_of_list acc ≡ with_hour price) where
+module _ (acc : List Decoded) (price : ℕ) (f : facts_of_list acc ≡ with_hour price) where
   dues_of : {dues : List ℤ} → dues_at price ≡ dues → (p : ℕ) → p < party_count → reckoned_due acc 0 p ≡ amount_of dues p
   unfolding reckoned_due
   dues_of e p h =
       ap (λ (F : Facts). due_in F 0 p) f ∙ dues_are price (latest_obligation loaded) counts last (nets_listed price) obligations_listed e p h
 
-  number_of : undistributed_at price ≡ false → refusal_of (asked (facts_of_list acc) (Post 1)) (Post 1) ≡ 0
+  number_of : undistributed_at price ≡ false → refusal_of (asked (facts_of_list acc) (Ok (Post 1))) (Ok (Post 1)) ≡ 0
   number_of e = rw f (post_accepted price (latest_obligation loaded) counts last (nets_listed price) obligations_listed e)
 
 lines_first : list_below party_count (reckoned_line first 0) ≡ one_way_lines
@@ -187,41 +187,41 @@ unfolding list_below reckoned_paid line
 lines_second =
     lines_are second one_way_lines (amount_of early_lines) (dues_of second 9000 facts_second money.0) (dues_of early 100 facts_early money.2) ∙ refl
 
-one_fed : Fed [] one_way (before_loads_answers ++ (answer 0 no_lines ∷ answer 0 no_lines ∷ answer 0 no_lines ∷ answer 0 one_way_lines ∷ [])) (Post 1 ∷ first)
+one_fed : Fed [] one_way (before_loads_answers ++ (answer 0 no_lines ∷ answer 0 no_lines ∷ answer 0 no_lines ∷ answer 0 one_way_lines ∷ [])) (Ok (Post 1) ∷ first)
 unfolding number_at is_broken of_length framed decoded within index derating_fits hour_fits numbers_fit in_range refusal_of list_below leap_year month_days is_date
     calendar_year is_delivery_date delivery_day hour_index multiples_below days_before_year day_of_year day_number sum_below
     year_of latest_area unit_of accepted_hours last_index facts_of_list
 one_fed =
     before_loads_run _
-    (accepted_next (load 1 5 500000) (Load load₅) unloaded _ refl refl refl
-    (accepted_next (load 1 7 600000) (Load load₇) (Load load₅ ∷ unloaded) _ refl refl refl
-    (accepted_next derated (Hour hour₁) loaded _ refl refl refl
-    (accepted_next (post 1) (Post 1) first [] refl (number_of first 9000 facts_first money.1) lines_first (none_next (Post 1 ∷ first))))))
+    (accepted_next (load 1 5 500000) (Ok (Load load₅)) unloaded _ refl refl refl
+    (accepted_next (load 1 7 600000) (Ok (Load load₇)) (Ok (Load load₅) ∷ unloaded) _ refl refl refl
+    (accepted_next derated (Ok (Hour hour₁)) loaded _ refl refl refl
+    (accepted_next (post 1) (Ok (Post 1)) first [] refl (number_of first 9000 facts_first money.1) lines_first (none_next (Ok (Post 1) ∷ first))))))
 
 another_fed : Fed [] another_way
     (before_loads_answers ++ (answer 0 no_lines ∷ answer 0 no_lines ∷ answer 10 no_lines ∷ answer 0 no_lines ∷ answer 0 no_lines ∷ answer 0 early_lines
     ∷ answer 0 no_lines ∷ answer 0 later_lines ∷ []))
-    (Post 1 ∷ second)
+    (Ok (Post 1) ∷ second)
 unfolding number_at is_broken of_length framed decoded within index days_fit derating_fits hour_fits numbers_fit in_range refusal_of list_below
     leap_year month_days is_date delivery_days calendar_year is_delivery_date delivery_day hour_index multiples_below days_before_year day_of_year day_number sum_below
     year_of latest_area unit_of accepted_hours last_index facts_of_list
 another_fed =
-    accepted_next (year 2010) (Year 2010) [] _ refl refl refl
-    (accepted_next (area 1 100) (Area (area₁ 100)) (Year 2010 ∷ []) _ refl refl refl
-    (accepted_next (unit 2 1 1000000 0 10000 0 0) (Unit unit₂) second₂ _ refl refl refl
-    (accepted_next (unit 1 1 4500000 30000 5000 15000 0) (Unit unit₁) (Unit unit₂ ∷ second₂) _ refl refl refl
-    (accepted_next (commitment 1 1 5 0 364 1) (Commitment small₁) second₄ _ refl refl refl
-    (accepted_next (load 1 7 600000) (Load load₇) (Commitment small₁ ∷ second₄) _ refl refl refl
-    (accepted_next derated (Hour hour₁) second₆ _ refl refl refl
-    (accepted_next (commitment 2 2 6 0 364 1000000) (Commitment commitment₂) (Hour hour₁ ∷ second₆) _ refl refl refl
-    (refused_next derated (Hour hour₁) second₈ _ 10 refl refl refl
-    (accepted_next (load 1 5 500000) (Load load₅) second₈ _ refl refl refl
-    (accepted_next (commitment 1 1 5 0 364 4000000) (Commitment commitment₁) (Load load₅ ∷ second₈) _ refl refl refl
-    (accepted_next (post 1) (Post 1) early _ refl (number_of early 100 facts_early money.3) lines_early
-    (accepted_next (area 1 9000) (Area (area₁ 9000)) (Post 1 ∷ early) _ refl refl refl
-    (accepted_next (post 1) (Post 1) second [] refl (number_of second 9000 facts_second money.1) lines_second (none_next (Post 1 ∷ second)))))))))))))))
+    accepted_next (year 2010) (Ok (Year 2010)) [] _ refl refl refl
+    (accepted_next (area 1 100) (Ok (Area (area₁ 100))) (Ok (Year 2010) ∷ []) _ refl refl refl
+    (accepted_next (unit 2 1 1000000 0 10000 0 0) (Ok (Unit unit₂)) second₂ _ refl refl refl
+    (accepted_next (unit 1 1 4500000 30000 5000 15000 0) (Ok (Unit unit₁)) (Ok (Unit unit₂) ∷ second₂) _ refl refl refl
+    (accepted_next (commitment 1 1 5 0 364 1) (Ok (Commitment small₁)) second₄ _ refl refl refl
+    (accepted_next (load 1 7 600000) (Ok (Load load₇)) (Ok (Commitment small₁) ∷ second₄) _ refl refl refl
+    (accepted_next derated (Ok (Hour hour₁)) second₆ _ refl refl refl
+    (accepted_next (commitment 2 2 6 0 364 1000000) (Ok (Commitment commitment₂)) (Ok (Hour hour₁) ∷ second₆) _ refl refl refl
+    (refused_next derated (Ok (Hour hour₁)) second₈ _ 10 refl refl refl
+    (accepted_next (load 1 5 500000) (Ok (Load load₅)) second₈ _ refl refl refl
+    (accepted_next (commitment 1 1 5 0 364 4000000) (Ok (Commitment commitment₁)) (Ok (Load load₅) ∷ second₈) _ refl refl refl
+    (accepted_next (post 1) (Ok (Post 1)) early _ refl (number_of early 100 facts_early money.3) lines_early
+    (accepted_next (area 1 9000) (Ok (Area (area₁ 9000))) (Ok (Post 1) ∷ early) _ refl refl refl
+    (accepted_next (post 1) (Ok (Post 1)) second [] refl (number_of second 9000 facts_second money.1) lines_second (none_next (Ok (Post 1) ∷ second)))))))))))))))
 
-standing : SameStanding (Post 1 ∷ first) (Post 1 ∷ second)
+standing : SameStanding (Ok (Post 1) ∷ first) (Ok (Post 1) ∷ second)
 unfolding year_of unit_of latest_area latest_commitment latest_obligation accepted_hours
 standing =
     record {

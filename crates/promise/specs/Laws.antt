@@ -1,12 +1,12 @@
 -- What the reckoning's definitions give, for all lists, what it has in common with the book, and that any list of strings is
 -- that of a log.
-use Rattle.std.specs.Prelude.{◌≡◌, List, [], ◌∷◌, map, ℕ, ◌+◌, ◌+ℤ◌}
+use Rattle.std.specs.Prelude.{Ok, ◌≡◌, List, [], ◌∷◌, map, ℕ, ◌+◌, ◌+ℤ◌}
 use mathlib.Core.List.{flatten}
 use Rattle.numbers.specs.Lists.{list_below}
 use Rattle.capacity.specs.Shortfall.{unit_watt_days, watt_days_of}
-use Rattle.records.specs.declared.format.Record.{Record}
 use Rattle.records.specs.declared.format.Record.TheVariants.{Post}
 use Rattle.records.specs.Format.{commitment_count, party_count}
+use Rattle.records.specs.Kinds.{Decoded}
 use Rattle.rules.specs.Dues.{watt_days_for, part_for}
 use Rattle.book.specs.Books.{facts_of_book, empty_book}
 use Rattle.book.specs.Entered.{book_after}
@@ -16,7 +16,7 @@ use Rattle.promise.specs.Logs.{strings, ends_from}
 
 -- with each Post of an area the lines there so far grow by its lines
 abbrev pub LinesAddUp : Type 0
-LinesAddUp = (acc : List Record) (a p : ℕ) → reckoned_paid (Post (a + 1) ∷ acc) a p ≡ reckoned_paid acc a p +ℤ reckoned_line acc a p
+LinesAddUp = (acc : List Decoded) (a p : ℕ) → reckoned_paid (Ok (Post (a + 1)) ∷ acc) a p ≡ reckoned_paid acc a p +ℤ reckoned_line acc a p
 
 -- the number and the lines of an entry
 abbrev pub answered : Entry → Answered

@@ -8,10 +8,8 @@ use Rattle.money.specs.Quantities.{cents_of}
 use Rattle.records.specs.Format.{party_count}
 use Rattle.records.specs.Decoded.{decoded}
 use Rattle.records.specs.Kinds.{of_post}
-use Rattle.book.specs.declared.Book.{Book}
-use Rattle.book.specs.declared.Answer.{Answer}
-use Rattle.book.specs.Books.{empty_book}
-use Rattle.book.specs.Entered.{entered}
+use Rattle.book.specs.Books.{Book, empty_book}
+use Rattle.book.specs.Entered.{Answer, entered}
 use Rattle.promise.specs.Reckoning.{Answered, answers_of, accepted_of, reckoned_due}
 use Rattle.promise.specs.Standing.{SameStanding}
 

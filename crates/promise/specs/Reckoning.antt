@@ -9,37 +9,36 @@ use Rattle.records.specs.declared.format.AreaRecord.{AreaRecord}
 use Rattle.records.specs.declared.format.UnitRecord.{UnitRecord}
 use Rattle.records.specs.declared.format.CommitmentRecord.{CommitmentRecord}
 use Rattle.records.specs.declared.format.HourRecord.{HourRecord}
-use Rattle.records.specs.declared.format.Record.{Record}
 use Rattle.records.specs.Format.{party_count}
 use Rattle.records.specs.Decoded.{decoded}
-use Rattle.records.specs.Kinds.{of_year, of_area, of_unit, of_commitment, of_hour, of_load, of_post}
+use Rattle.records.specs.Kinds.{Decoded, of_year, of_area, of_unit, of_commitment, of_hour, of_load, of_post}
 use Rattle.rules.specs.Hours.{hour_index, service_hour, outage_hour, derated_watts}
 use Rattle.rules.specs.Facts.{Facts, no_area, no_unit, no_commitment}
 use Rattle.rules.specs.Dues.{due_in}
 use Rattle.rules.specs.Rules.{refusal}
 
 -- 01, Records, "Standing facts": the year; 0 before it is entered
-unfoldable pub year_of : List Record → ℕ
+unfoldable pub year_of : List Decoded → ℕ
 year_of [] = 0
 year_of (r ∷ rs) = of_year (year_of rs) (λ y. y) r
 
 -- 01, Records: a later Area with the same key (area) replaces the earlier
-unfoldable pub latest_area : List Record → ℕ → AreaRecord
+unfoldable pub latest_area : List Decoded → ℕ → AreaRecord
 latest_area [] k = no_area
 latest_area (r ∷ rs) k = of_area (latest_area rs k) (λ a. cond (eqb a.area (k + 1)) a (latest_area rs k)) r
 
 -- 01, Records: each unit is entered once
-unfoldable pub unit_of : List Record → ℕ → UnitRecord
+unfoldable pub unit_of : List Decoded → ℕ → UnitRecord
 unit_of [] k = no_unit
 unit_of (r ∷ rs) k = of_unit (unit_of rs k) (λ u. cond (eqb u.unit (k + 1)) u (unit_of rs k)) r
 
 -- 01, Records: a later Commitment with the same key (number) replaces the earlier
-unfoldable pub latest_commitment : List Record → ℕ → CommitmentRecord
+unfoldable pub latest_commitment : List Decoded → ℕ → CommitmentRecord
 latest_commitment [] k = no_commitment
 latest_commitment (r ∷ rs) k = of_commitment (latest_commitment rs k) (λ c. cond (eqb c.number (k + 1)) c (latest_commitment rs k)) r
 
 -- 01, Records: a later Load with the same key (area and party) replaces the earlier
-unfoldable pub latest_obligation : List Record → ℕ → ℕ → ℕ
+unfoldable pub latest_obligation : List Decoded → ℕ → ℕ → ℕ
 latest_obligation [] a p = 0
 latest_obligation (r ∷ rs) a p =
     of_load (latest_obligation rs a p)
@@ -47,7 +46,7 @@ latest_obligation (r ∷ rs) a p =
     r
 
 -- 01, Records, "Standing facts": the accepted Hour records of a unit
-unfoldable pub accepted_hours : List Record → ℕ → List HourRecord
+unfoldable pub accepted_hours : List Decoded → ℕ → List HourRecord
 accepted_hours [] u = []
 accepted_hours (r ∷ rs) u = of_hour (accepted_hours rs u) (λ h. cond (eqb h.unit (u + 1)) (h ∷ accepted_hours rs u) (accepted_hours rs u)) r
 
@@ -67,7 +66,7 @@ last_index y [] = 0
 last_index y (h ∷ hs) = hour_index y h
 
 -- 01, Fresh reckoning: the standing facts are read from the list, and SH, FOH and D from its peak Hour records, by kind
-unfoldable pub facts_of_list : List Record → Facts
+unfoldable pub facts_of_list : List Decoded → Facts
 facts_of_list acc = record {
   year = year_of acc;
   area = latest_area acc;
@@ -79,30 +78,30 @@ facts_of_list acc = record {
 }
 
 -- 01, Fresh reckoning: each string is tried against the rows of refusal, and all that they ask beyond it is read from the list
-abbrev pub number_for : List Record → List ℕ → ℕ
+abbrev pub number_for : List Decoded → List ℕ → ℕ
 number_for acc s = refusal (facts_of_list acc) s
 
 -- 01, Fresh reckoning: if a row fits, the list stays as it is; if none fits, the record joins it
-unfoldable pub accepted_with : List Record → List ℕ → List Record
+unfoldable pub accepted_with : List Decoded → List ℕ → List Decoded
 accepted_with acc s = cond (eqb (number_for acc s) 0) (decoded s ∷ acc) acc
 
 -- 01, Fresh reckoning: a party's due in an area is what the rules give from the standing facts and SH, FOH and D
-unfoldable pub reckoned_due : List Record → ℕ → ℕ → ℤ
+unfoldable pub reckoned_due : List Decoded → ℕ → ℕ → ℤ
 reckoned_due acc a p = due_in (facts_of_list acc) a p
 
 -- 01, Area money: the party's lines in area a so far. Each is the due less the earlier ones, so that they add up to the due
 -- at the latest accepted Post of the area. That due is read from the list before the Post, as the Post's own lines are;
 -- with the Post the facts are the same.
-unfoldable pub reckoned_paid : List Record → ℕ → ℕ → ℤ
+unfoldable pub reckoned_paid : List Decoded → ℕ → ℕ → ℤ
 reckoned_paid [] a p = pos 0
 reckoned_paid (r ∷ rs) a p = of_post (reckoned_paid rs a p) (λ n. cond (eqb n (a + 1)) (reckoned_due rs a p) (reckoned_paid rs a p)) r
 
 -- 01, Area money: a line of a Post is the due less the party's earlier lines in that area
-unfoldable pub reckoned_line : List Record → ℕ → ℕ → ℤ
+unfoldable pub reckoned_line : List Decoded → ℕ → ℕ → ℤ
 reckoned_line acc a p = line (reckoned_due acc a p) (reckoned_paid acc a p)
 
 -- 01, Places of refusal: only an accepted Post has lines other than zero; party p's line for a string
-unfoldable pub line_for : List Record → List ℕ → ℕ → ℤ
+unfoldable pub line_for : List Decoded → List ℕ → ℕ → ℤ
 line_for acc s p = cond (eqb (number_for acc s) 0) (of_post (pos 0) (λ n. reckoned_line acc (n - 1) p) (decoded s)) (pos 0)
 
 -- 01, Places of refusal: the answer is the number and sixteen lines
@@ -110,15 +109,15 @@ pub record Answered : Type 0 where
   pub number : ℕ
   pub lines : List ℤ
 
-abbrev pub answer_for : List Record → List ℕ → Answered
+abbrev pub answer_for : List Decoded → List ℕ → Answered
 answer_for acc s = record { number = number_for acc s; lines = list_below party_count (line_for acc s) }
 
 -- 01, Fresh reckoning: it is fed the same strings of bytes as the book, in the same order: the answers, from a list on
-unfoldable pub answers_of : List Record → List (List ℕ) → List Answered
+unfoldable pub answers_of : List Decoded → List (List ℕ) → List Answered
 answers_of acc [] = []
 answers_of acc (s ∷ ss) = answer_for acc s ∷ answers_of (accepted_with acc s) ss
 
 -- the list after these strings
-unfoldable pub accepted_of : List Record → List (List ℕ) → List Record
+unfoldable pub accepted_of : List Decoded → List (List ℕ) → List Decoded
 accepted_of acc [] = acc
 accepted_of acc (s ∷ ss) = accepted_of (accepted_with acc s) ss

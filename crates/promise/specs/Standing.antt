@@ -3,11 +3,11 @@
 use Rattle.std.specs.Prelude.{◌≡◌, ◌↔◌, List, ℕ}
 use mathlib.Core.List.{Memᴰ}
 use Rattle.records.specs.declared.format.HourRecord.{HourRecord}
-use Rattle.records.specs.declared.format.Record.{Record}
+use Rattle.records.specs.Kinds.{Decoded}
 use Rattle.promise.specs.Reckoning.{year_of, latest_area, unit_of, latest_commitment, latest_obligation, accepted_hours}
 
 -- two lists that leave the same standing facts
-pub record SameStanding (rs qs : List Record) : Type 0 where
+pub record SameStanding (rs qs : List Decoded) : Type 0 where
   pub year : year_of rs ≡ year_of qs
   pub units : (k : ℕ) → unit_of rs k ≡ unit_of qs k
   pub areas : (k : ℕ) → latest_area rs k ≡ latest_area qs k

@@ -1,33 +1,48 @@
 // A whole log of strings, entered into a book that starts empty.
 ghost use Rattle.std.specs.Prelude.{◌≡◌, map, ◌+◌, ◌-◌, ◌≤◌, min, length, take, drop, set};
 ghost use Rattle.book.specs.Books.{empty_book, Sound};
-ghost use Rattle.book.specs.Entered.{book_after};
+ghost use Rattle.rules.specs.Refusal.{number_of};
+ghost use Rattle.book.specs.Entered.{lines_given, book_after};
 ghost use Rattle.promise.specs.Promise.{from_empty};
 ghost use Rattle.promise.specs.Logs.{strings, stored_from, stored, all_numbers, all_lines};
 
 use book::Book;
 use money::Cents;
-use records::stream::end_of;
+use rules::refusal::Refusal;
 
 // The string between two places of the bytes.
 fn between(bytes: &[u8], from: usize, end: usize) -> &[u8]
     ensures { result.now ≡ take (end - from) (drop from bytes.now) }
 {
-    let first = end_of(bytes, from);
-    let last = end_of(bytes, end);
-    if last < first {
-        return &bytes[first..first];
-    }
+    let first = from.min(bytes.len());
+    let last = end.min(bytes.len()).max(first);
     &bytes[first..last]
+}
+
+fn number(answer: Result<[Cents; Book::PARTIES], Refusal>) -> u32
+    ensures { result ≡ number_of answer }
+{
+    match answer {
+        Ok(_) => 0,
+        Err(row) => row.number(),
+    }
+}
+
+fn amounts(answer: Result<[Cents; Book::PARTIES], Refusal>) -> [Cents; Book::PARTIES]
+    ensures { result ≡ lines_given answer }
+{
+    match answer {
+        Ok(amounts) => amounts,
+        Err(_) => [Cents::zero(); Book::PARTIES],
+    }
 }
 
 fn put_number(numbers: &mut [u32], i: usize, number: u32)
     ensures { numbers.new ≡ set numbers.old i number }
 {
-    if numbers.len() <= i {
-        return;
+    if i < numbers.len() {
+        numbers[i] = number;
     }
-    numbers[i] = number;
 }
 
 // Answers the next place, which is never past the end.
@@ -37,15 +52,11 @@ fn put_lines(lines: &mut [i64], at: usize, amounts: [Cents; Book::PARTIES]) -> u
     ensures value { result ≡ min (at + length amounts) (length lines.old) }
 {
     let mut next = at;
-    let mut p = 0;
-    while p < Book::PARTIES {
-        if lines.len() <= next {
-            return next;
+    for amount in amounts {
+        if next < lines.len() {
+            lines[next] = amount.amount();
+            next += 1;
         }
-        let amount = amounts[p];
-        lines[next] = amount.amount();
-        next = next + 1;
-        p = p + 1;
     }
     next
 }
@@ -60,17 +71,11 @@ pub fn run(bytes: &[u8], ends: &[usize], numbers: &mut [u32], lines: &mut [i64])
     let mut book = Book::new();
     let mut from = 0;
     let mut next = 0;
-    let mut i = 0;
-    while i < ends.len() {
-        let end = ends[i];
-        let answer = book.enter(between(bytes, from, end));
-        put_number(numbers, i, answer.number);
-        let amounts = answer.lines;
-        let after = put_lines(lines, next, amounts);
-        book = answer.book;
-        from = end;
-        next = after;
-        i = i + 1;
+    for (i, end) in ends.iter().enumerate() {
+        let answer = book.enter(between(bytes, from, *end));
+        put_number(numbers, i, number(answer));
+        next = put_lines(lines, next, amounts(answer));
+        from = *end;
     }
     book
 }

@@ -2,7 +2,6 @@
 #![tactic(auto, unfolding(crate::specs::Passes::tried, crate::specs::Passes::closed, crate::specs::Passes::close_answer, crate::specs::Passes::countable, crate::specs::Passes::pass_answer, crate::specs::Printed::answer_text))]
 
 ghost use Rattle.std.specs.Prelude.{◌≡◌, [], ◌+◌, ◌≤◌, ◌<◌, ◌^◌, min, length, take, Ok};
-ghost use Rattle.book.specs.Books.{Sound};
 ghost use Rattle.book.specs.Runs.{hours_between};
 ghost use Rattle.report.specs.Printed.{lines_most, pair_most};
 ghost use Rattle.report.specs.Passes.{State, standing, state_of, at_first, post_area, tried, HoursTaken, stopped, passed, free, room, Left, emptied, countable, pass_answer, text_given, close_answer, finish_answer};
@@ -52,7 +51,7 @@ fn post_area(bytes: &[u8]) -> u32
 
 impl<const SIZE: usize> Report<SIZE> {
     pub fn new() -> Self
-        ensures { (state_of result ≡ at_first) × Sound result.book }
+        ensures { state_of result ≡ at_first }
     {
         Self {
             book: Book::new(),
@@ -96,11 +95,9 @@ impl<const SIZE: usize> Report<SIZE> {
 
     // A string is tried: entered, counted, and its answer printed.
     fn try_record(&mut self, bytes: &[u8])
-        requires sound { Sound self.old.book }
         requires fits { self.old.tried + 1 < 2 ^ 64 }
         requires has_room { length self.old.text.items + lines_most ≤ SIZE }
         ensures value { state_of self.new ≡ tried (state_of self.old) bytes.now }
-        ensures sound { Sound self.new.book }
         ensures most { length self.new.text.items ≤ length self.old.text.items + lines_most }
     {
         self.tried += 1;
@@ -115,10 +112,8 @@ impl<const SIZE: usize> Report<SIZE> {
 
     // Accepted hours in a row: they are counted, and nothing is printed. Answers how many bytes they are.
     fn take_hours(&mut self, s: &[u8]) -> usize
-        requires sound { Sound self.old.book }
-        requires fits { self.old.tried + length s.now < 2 ^ 64 }
-        ensures value { HoursTaken (state_of self.old) s.now result (state_of self.new) }
-        ensures sound { Sound self.new.book }
+        requires { self.old.tried + length s.now < 2 ^ 64 }
+        ensures { HoursTaken (state_of self.old) s.now result (state_of self.new) }
     {
         let taken = self.book.hours(s);
         let hours = (taken / HOUR_BYTES) as u64;
@@ -130,12 +125,10 @@ impl<const SIZE: usize> Report<SIZE> {
     // The records of s, until there is no room for another answer or no whole record is left. Each turn takes a record, of a
     // size that it only then knows: no `for` goes by that.
     fn pass_over(&mut self, s: &[u8]) -> Pass
-        requires sound { Sound self.old.book }
-        requires fits { self.old.tried + length s.now < 2 ^ 64 }
+        requires { self.old.tried + length s.now < 2 ^ 64 }
         ensures value { stopped (state_of self.new) result.next result.stop ≡ passed SIZE (state_of self.old) s.now }
         ensures has_room { length self.new.text.items + free result.stop ≤ SIZE }
         ensures left { Left result.next self.new.tried self.old.tried s.now }
-        ensures sound { Sound self.new.book }
     {
         let mut at = 0;
         loop {
@@ -183,11 +176,9 @@ impl<const SIZE: usize> Report<SIZE> {
     // The records of s are tried, until there is no room for another answer or no whole record is left. Where the counts might
     // not fit, none is.
     pub fn take(&mut self, s: &[u8]) -> Pass
-        requires { Sound self.old.book }
         ensures value { stopped (state_of self.new) result.next result.stop ≡ pass_answer SIZE (state_of self.old) s.now }
         ensures has_room { length self.new.text.items + free result.stop ≤ SIZE }
         ensures left { Left result.next self.new.tried self.old.tried s.now }
-        ensures sound { Sound self.new.book }
     {
         let end = self.countable(s.len());
         self.pass_over(&s[..end])
@@ -202,8 +193,7 @@ impl<const SIZE: usize> Report<SIZE> {
 
     // All of the text is printed.
     pub fn clear(&mut self)
-        ensures value { state_of self.new ≡ emptied (state_of self.old) }
-        ensures sound { Sound self.old.book → Sound self.new.book }
+        ensures { state_of self.new ≡ emptied (state_of self.old) }
     {
         self.text.clear();
     }
@@ -221,7 +211,6 @@ impl<const SIZE: usize> Report<SIZE> {
 
     // The end of the input: what is left of it is a cut record, and is tried; then comes the last line.
     pub fn finish(&mut self, rest: &[u8]) -> Result<(), Unfinished>
-        requires { Sound self.old.book }
         ensures { text_given result self.new.text.items ≡ finish_answer SIZE (state_of self.old) rest.now }
     {
         if !rest.is_empty() {

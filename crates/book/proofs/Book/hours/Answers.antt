@@ -6,7 +6,7 @@ use Rattle.book.proofs.Book.hours.Goals as goal
 pub loop-bytes-init : goal.loop-bytes-init
 loop-bytes-init c =
     let whole : chunks_exact_rest c.into_iter-bytes-iterator.result ≡ c.args.s.now = search rules in
-    (search rules, tt, search rules, all_left c.args.self.now c.args.s.now whole c.requires)
+    (search rules, tt, search rules, all_left c.args.self.now c.args.s.now whole)
 
 pub loop-bytes-preserved : goal.loop-bytes-preserved
 loop-bytes-preserved c =
@@ -16,15 +16,15 @@ loop-bytes-preserved c =
       omega arith,
       tt,
       size,
-      goes_on c.loop-bytes.invariant.3 _ _ step.1.0 (step.1.1 ∙ c.loop-bytes.invariant.2) hour.value c.if-not-enter_hour.false hour.book hour.sound,
+      goes_on c.loop-bytes.invariant.3 _ _ step.1.0 (step.1.1 ∙ c.loop-bytes.invariant.2) hour.value c.if-not-enter_hour.false hour.book,
     )
 
-pub returns-in-None-clause-value : goal.returns-in-None-clause-value
-returns-in-None-clause-value c =
+pub returns-in-None : goal.returns-in-None
+returns-in-None c =
     ends c.loop-bytes.invariant.3 (omega (arith, c.in-None.ensures.steps.1.0, c.loop-bytes.invariant.2))
 
-pub returns-then-not-enter_hour-clause-value : goal.returns-then-not-enter_hour-clause-value
-returns-then-not-enter_hour-clause-value c =
+pub returns-then-not-enter_hour : goal.returns-then-not-enter_hour
+returns-then-not-enter_hour c =
     let step = c.in-Some.ensures.steps in
     let hour = c.enter_hour.ensures in
     stops c.loop-bytes.invariant.3 _ _ step.1.0 (step.1.1 ∙ c.loop-bytes.invariant.2) hour.value c.if-not-enter_hour.true hour.book
