@@ -1,5 +1,5 @@
 // What is done with the bytes of an input.
-ghost use Rattle.std.specs.Prelude.{◌≡◌, [], ◌-◌, ◌≤◌, length, take, drop};
+ghost use Rattle.std.specs.Prelude.{◌≡◌, [], ◌+◌, ◌-◌, ◌≤◌, length, take, drop};
 ghost use Rattle.ledger.specs.Unread.{unread, Reads};
 
 use crate::input::Input;
@@ -26,15 +26,16 @@ impl<const SIZE: usize> Input<SIZE> {
 
     pub(crate) fn unread(&self) -> &[u8]
         ensures value { result.now ≡ unread self.now }
-        ensures most { length result.now ≤ SIZE }
+        ensures len { length result.now ≡ self.now.end }
     {
         &self.bytes[..self.end]
     }
 
     // Moves what follows the first n bytes to the start.
     pub(crate) fn consume(&mut self, n: usize)
-        requires { n ≤ length (unread self.old) }
-        ensures { unread self.new ≡ drop n (unread self.old) }
+        requires { n ≤ self.old.end }
+        ensures value { unread self.new ≡ drop n (unread self.old) }
+        ensures left { self.new.end + n ≡ self.old.end }
     {
         carry(&mut self.bytes, n, self.end);
         self.end -= n;

@@ -1,6 +1,6 @@
 -- A pass over a buffer, record by record: hours in a row are so many records tried, counted, and nothing is printed.
 use Rattle.std.proofs.Common.{◌≡◌, refl, sym, ap, ◌∙◌, Bool, true, false, cond, ◌&&◌, List, [], append-nil, ℕ, zero, suc, ◌+◌, ◌*◌, ◌-◌, ◌/◌, ◌≤◌, ◌<◌, min}
-use Rattle.std.proofs.Common.{add-zero, le_refl, add-one, arith, eqb, ltb, length, take, drop, length-drop, take_all, eqb-true, lt-ltb, le-ltb}
+use Rattle.std.proofs.Common.{add-zero, le_refl, add-one, arith, eqb, ltb, length, take, drop, length-drop, take_all, eqb-true, lt-ltb, le-ltb, le-leb, ◌∷◌, ◌^◌}
 use mathlib.Core.Bool.{false≢true}
 use Rattle.std.proofs.lemmas.List.{drop-drop}
 use Rattle.numbers.specs.Lists.{list_below}
@@ -17,9 +17,9 @@ use Rattle.book.specs.declared.Book.{Book}
 use Rattle.book.specs.Books.{facts_of_book}
 use Rattle.book.specs.Entered.{no_lines, lines_of, entered}
 use Rattle.book.specs.Runs.{Run, run, hour_length, hour_bytes, is_accepted_hour, hours_of, hours_between}
-use Rattle.report.specs.Passes.{State, post_area, tried, with_hours, HoursTaken, stopped, room, on_next, pass_of, passed, Left}
+use Rattle.report.specs.Passes.{State, post_area, tried, with_hours, HoursTaken, stopped, room, on_next, pass_of, passed, Left, ended, closed, pass_answer, countable, close_answer, finish_answer}
 use Rattle.report.specs.declared.pass.Stop.TheVariants as stop
-use Rattle.report.specs.Printed.{party_lines, answer_text}
+use Rattle.report.specs.Printed.{pair_most, party_lines, answer_text}
 
 -- what follows a place, as the code has it
 abbrev rest : List ℕ → ℕ → List ℕ
@@ -266,3 +266,17 @@ module _ (size : ℕ) (s : List ℕ) where
                 counts = omega (arith, g.counts, hours, found.next_is, found.there);
                 has_room = h;
               })
+
+-- with room, and counts that fit, the last lines are those of the definition
+pub close_room : (size : ℕ) (r : State) → length r.text + pair_most ≤ size → close_answer size r ≡ closed r
+unfolding close_answer
+close_room size r h = simp (le-leb _ _ h)
+
+pub finish_room : (size : ℕ) (r : State) (s : List ℕ) → length r.text + room ≤ size → r.tried + 1 < 2 ^ 64 → finish_answer size r s ≡ closed (ended r s)
+finish_room size r [] has_room few = close_room size r (omega arith)
+finish_room size r (b ∷ s) has_room few = simp (lt-ltb _ _ few, le-leb _ _ has_room)
+
+-- where the counts fit, all records are tried
+pub passed_all : (size : ℕ) (r : State) (s : List ℕ) {t : List ℕ} → t ≡ s → r.tried + length t < 2 ^ 64 → pass_answer size r t ≡ passed size r s
+unfolding pass_answer countable
+passed_all size r s {t} e few = rw (sym e) (rw (lt-ltb (r.tried + length t) (2 ^ 64) few, take_all (length t) t (le_refl (length t))))

@@ -63,8 +63,7 @@ impl<const SIZE: usize> Report<SIZE> {
 
     // A run from any standing; no more records are accepted than tried.
     pub fn resume(book: Book, tried: u64, accepted: u64, text: ArrayVec<u8, SIZE>) -> Self
-        requires { Sound book }
-        ensures { (state_of result ≡ standing book tried (min accepted tried) text.entry.items) × Sound result.book }
+        ensures { state_of result ≡ standing book tried (min accepted tried) text.entry.items }
     {
         Self {
             book,
@@ -200,7 +199,8 @@ impl<const SIZE: usize> Report<SIZE> {
 
     // The last line, after a broken record.
     pub fn close(&mut self) -> Result<(), Unfinished>
-        ensures { text_given result self.new.text.items ≡ close_answer SIZE (state_of self.old) }
+        ensures value { text_given result self.new.text.items ≡ close_answer SIZE (state_of self.old) }
+        ensures tried { self.new.tried ≡ self.old.tried }
     {
         if self.text.remaining_capacity() < PAIR_MOST {
             return Err(Unfinished);
@@ -211,7 +211,8 @@ impl<const SIZE: usize> Report<SIZE> {
 
     // The end of the input: what is left of it is a cut record, and is tried; then comes the last line.
     pub fn finish(&mut self, rest: &[u8]) -> Result<(), Unfinished>
-        ensures { text_given result self.new.text.items ≡ finish_answer SIZE (state_of self.old) rest.now }
+        ensures value { text_given result self.new.text.items ≡ finish_answer SIZE (state_of self.old) rest.now }
+        ensures tried { self.new.tried ≤ self.old.tried + 1 }
     {
         if !rest.is_empty() {
             if self.tried == u64::MAX || self.text.remaining_capacity() < ROOM {

@@ -1,10 +1,9 @@
 use Rattle.std.proofs.Common.{◌≡◌, ◌+◌, ◌-◌, ℕ, take, drop, arith, sym, ap, ◌∙◌}
-use Rattle.std.proofs.lemmas.List.{drop-take, length-take-le}
+use Rattle.std.proofs.lemmas.List.{drop-take}
 use Rattle.ledger.proofs.input.Input.consume.Goals as goal
 
-pub returns : goal.returns
-returns g c =
-    let size = length-take-le c.args.self.now.end c.args.self.now.bytes (omega arith) in
+pub returns-clause-value : goal.returns-clause-value
+returns-clause-value g c =
     let all : c.args.n + (c.args.self.now.end - c.args.n) ≡ c.args.self.now.end = omega arith in
     c.carry.ensures
     ∙ sym (drop-take c.args.n (c.args.self.now.end - c.args.n) c.args.self.now.bytes)

@@ -1,4 +1,4 @@
-use Rattle.std.proofs.Common.{◌≡◌, ◌+◌, ◌-◌, ◌++◌, ◌≤◌, ℕ, List, length, take, arith, sym, ap, ◌∙◌}
+use Rattle.std.proofs.Common.{◌≡◌, ◌+◌, ◌++◌, ◌≤◌, ℕ, List, length, take, arith, sym, ap, ◌∙◌}
 use Rattle.std.proofs.lemmas.List.{take-append-le, length-take-le}
 use Rattle.std.proofs.Math.Seq.{take-append-add}
 use Rattle.ledger.proofs.input.Input.read_from.Goals as goal
@@ -14,8 +14,7 @@ filled a n xs ys zs p q =
 
 pub returns : goal.returns
 returns g c =
-    let size = length-take-le c.args.self.now.end c.args.self.now.bytes (omega arith) in
-    (
+    let size = length-take-le c.args.self.now.end c.args.self.now.bytes (omega arith) in (
       take c.in_ok-count.count c.read.new.buf,
       filled c.args.self.now.end c.in_ok-count.count c.args.self.now.bytes c.read.new.buf _ (omega arith) c.in_ok-count.ensures.bound.0,
       sym c.in_ok-count.ensures.bound.1,
