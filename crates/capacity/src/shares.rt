@@ -10,7 +10,7 @@ use crate::UnforcedWatts;
 use crate::amounts::{unforced_difference, unforced_watts, watts_above, watts_below};
 use crate::rating::{HourCounts, Rating};
 use crate::shortfall::limited_shortfall;
-use numbers::split::{capped_sum, split_by_party};
+use numbers::split::{capped_sum, split_array};
 
 fn size_of(w: UnforcedWatts) -> u64
     ensures { (result ≡ nat_abs w.0) × (result ≤ 2 ^ 63) }
@@ -35,7 +35,7 @@ fn signed_split(s: UnforcedWatts, weights: [u64; 16]) -> [UnforcedWatts; 16]
     requires { nat_abs s.0 * sum_below 16 (element weights) < 2 ^ 63 }
     ensures { result ≡ list_below 16 (λ p. unforced_watts (split_signed s.0 16 (element weights) p)) }
 {
-    let sizes = split_by_party(size_of(s), weights);
+    let sizes = split_array(size_of(s), weights);
     let mut shares = [UnforcedWatts(0); 16];
     let mut p = 0;
     while p < 16 {

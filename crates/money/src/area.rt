@@ -15,7 +15,7 @@ use crate::amounts::{cents, cents_above, cents_difference};
 use capacity::UnforcedWatts;
 use capacity::amounts::{watts_above, watts_below};
 use capacity::shares::NET_MOST;
-use numbers::split::{capped_add, capped_sum, split_by_party};
+use numbers::split::{capped_sum, split_array};
 
 // What an area's nets, price and obligations come to: whether money is left over that no obligation takes, which is
 // refusal 11, and each party's due.
@@ -99,7 +99,7 @@ fn split_cents(money: Cents, weights: [u64; 16]) -> [Cents; 16]
     requires { above money.0 * sum_below 16 (element weights) < 2 ^ 63 }
     ensures { result ≡ list_below 16 (λ p. cents (pos (split (above money.0) 16 (element weights) p))) }
 {
-    let amounts = split_by_party(cents_above(money), weights);
+    let amounts = split_array(cents_above(money), weights);
     let mut shares = [Cents(0); 16];
     let mut p = 0;
     while p < 16 {
@@ -179,7 +179,7 @@ fn shortfalls(nets: [UnforcedWatts; 16]) -> u64
     let mut p = 0;
     while p < 16 {
         let net = nets[p];
-        sum = capped_add(sum, watts_above(net));
+        sum = sum.saturating_add(watts_above(net));
         p += 1;
     }
     sum
@@ -192,7 +192,7 @@ fn excesses(nets: [UnforcedWatts; 16]) -> u64
     let mut p = 0;
     while p < 16 {
         let net = nets[p];
-        sum = capped_add(sum, watts_below(net));
+        sum = sum.saturating_add(watts_below(net));
         p += 1;
     }
     sum

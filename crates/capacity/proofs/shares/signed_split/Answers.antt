@@ -9,7 +9,7 @@ pub loop-p-init : goal.loop-p-init
 loop-p-init c = filled_none refl
 
 pub with_sign-requires : goal.with_sign-requires
-with_sign-requires c = (party_share _ c.size_of.ensures.0 (search rules) c.requires c.split_by_party-sizes.ensures c.loop-p.p (omega arith)).fits
+with_sign-requires c = (party_share _ c.size_of.ensures.0 (search rules) c.requires c.split_array-sizes.ensures c.loop-p.p (omega arith)).fits
 
 pub loop-p-preserved : goal.loop-p-preserved
 loop-p-preserved c = filled_more c.loop-p.invariant (omega arith) c.with_sign.ensures
@@ -19,4 +19,4 @@ unfolding split_signed
 returns c =
     filled_all c.loop-p.invariant (omega arith)
     ∙ list_same 16 _ _
-    (λ k h. ap (λ (n : ℕ). unforced_watts (with_sign c.args.s.0 n)) (party_share _ c.size_of.ensures.0 (search rules) c.requires c.split_by_party-sizes.ensures k h).is)
+    (λ k h. ap (λ (n : ℕ). unforced_watts (with_sign c.args.s.0 n)) (party_share _ c.size_of.ensures.0 (search rules) c.requires c.split_array-sizes.ensures k h).is)

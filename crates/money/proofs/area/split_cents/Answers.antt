@@ -8,7 +8,7 @@ pub loop-p-init : goal.loop-p-init
 loop-p-init c = filled_none refl
 
 pub cents-requires : goal.cents-requires
-cents-requires c = (party_share _ c.cents_above.ensures.0 (search rules) c.requires c.split_by_party-amounts.ensures c.loop-p.p (omega arith)).fits
+cents-requires c = (party_share _ c.cents_above.ensures.0 (search rules) c.requires c.split_array-amounts.ensures c.loop-p.p (omega arith)).fits
 
 pub loop-p-preserved : goal.loop-p-preserved
 loop-p-preserved c = filled_more c.loop-p.invariant (omega arith) c.cents.ensures
@@ -16,4 +16,4 @@ loop-p-preserved c = filled_more c.loop-p.invariant (omega arith) c.cents.ensure
 pub returns : goal.returns
 returns c =
     filled_all c.loop-p.invariant (omega arith)
-    ∙ list_same 16 _ _ (λ k h. ap (λ (n : ℕ). cents (pos n)) (party_share _ c.cents_above.ensures.0 (search rules) c.requires c.split_by_party-amounts.ensures k h).is)
+    ∙ list_same 16 _ _ (λ k h. ap (λ (n : ℕ). cents (pos n)) (party_share _ c.cents_above.ensures.0 (search rules) c.requires c.split_array-amounts.ensures k h).is)
