@@ -1,19 +1,7 @@
-use Rattle.std.proofs.Common.{◌≡◌, refl, ℕ, arith}
-use Rattle.numbers.specs.Sum.{sum_below}
-use Rattle.numbers.specs.Signed.{below}
-use Rattle.numbers.proofs.Sums.{sum_one_more}
-use Rattle.capacity.specs.Quantities.{watts_of}
+use Rattle.std.proofs.Common.{rules, pos}
+use Rattle.numbers.proofs.Arrays.{map-is}
+use Rattle.capacity.specs.Quantities.{unforced_watts}
 use Rattle.money.proofs.area.excesses.Goals as goal
 
-pub loop-p-init : goal.loop-p-init
-unfolding sum_below
-loop-p-init c = (omega arith, refl)
-
-pub loop-p-preserved : goal.loop-p-preserved
-loop-p-preserved c =
-    (omega arith, omega (arith, c.loop-p.invariant.1, sum_one_more c.loop-p.p (λ (p : ℕ). below (watts_of c.args.nets p)), c.watts_below.ensures.0))
-
 pub returns : goal.returns
-returns c =
-    let end : c.loop-p.p ≡ 16 = omega arith in
-    rw end at c.loop-p.invariant.1
+returns c = map-is (λ f. Unit {0}) c.args.nets (unforced_watts (pos 0)) _ (λ f p y q b captured called. search rules) tt c.map.ensures.items
