@@ -89,24 +89,12 @@ fn dues(credits: [Cents; 16], load_shares: [Cents; 16], charges: [Cents; 16]) ->
     })
 }
 
-// Each party's shortfall in an area, or nothing.
-fn shortfalls(nets: [UnforcedWatts; 16]) -> [u64; 16]
-    ensures { result ≡ list_below 16 (λ p. above (watts_of nets p)) }
-{
-    nets.map(UnforcedWatts::above)
-}
-
-// Each party's excess, or nothing.
-fn excesses(nets: [UnforcedWatts; 16]) -> [u64; 16]
-    ensures { result ≡ list_below 16 (λ p. below (watts_of nets p)) }
-{
-    nets.map(UnforcedWatts::below)
-}
-
+// The shortfalls of all parties together, and the excesses, are in range.
 fn watts_in_range(nets: [UnforcedWatts; 16]) -> bool
     ensures { result ≡ watts_in_range (watts_of nets) }
 {
-    capped_sum(&shortfalls(nets)) <= NET_MOST && capped_sum(&excesses(nets)) <= NET_MOST
+    capped_sum(&nets.map(UnforcedWatts::above)) <= NET_MOST
+        && capped_sum(&nets.map(UnforcedWatts::below)) <= NET_MOST
 }
 
 #[tactic(auto, unfolding(crate::specs::AreaMoney::area_in_range))]
@@ -130,19 +118,33 @@ struct Area {
 }
 
 impl Area {
-    // Cents for each party's watts: C for shortfalls, M for excesses.
-    fn priced(self, watts: [u64; 16]) -> [Cents; 16]
-        requires { sum_below 16 (element watts) ≤ net_most }
-        ensures { result ≡ money (λ p. priced (element watts p) self.price self.days) }
+    // Cents for the watts of a net: for a shortfall its charge, for an excess its ceiling.
+    fn priced(self, watts: u64) -> Cents
+        requires { watts ≤ net_most }
+        ensures { result ≡ cents (pos (priced watts self.price self.days)) }
     {
-        array::from_fn(|p| Cents::new(watts[p] * self.price * self.days / MEGAWATT))
+        Cents::new(watts * self.price * self.days / MEGAWATT)
+    }
+
+    // C of each party.
+    fn charges(self) -> [Cents; 16]
+        ensures { result ≡ money (charge (watts_of self.nets) self.price self.days) }
+    {
+        array::from_fn(|p| self.priced(self.nets[p].above()))
+    }
+
+    // M of each party.
+    fn ceilings(self) -> [Cents; 16]
+        ensures { result ≡ money (ceiling (watts_of self.nets) self.price self.days) }
+    {
+        array::from_fn(|p| self.priced(self.nets[p].below()))
     }
 
     fn settled(self) -> Result<[Cents; 16], Undistributed>
         ensures { result ≡ settled (watts_of self.nets) self.price self.days (element self.obligations) }
     {
-        let charges = self.priced(shortfalls(self.nets));
-        let ceilings = self.priced(excesses(self.nets));
+        let charges = self.charges();
+        let ceilings = self.ceilings();
         let charged = total(charges);
         let ceiling = total(ceilings);
         let credits = credits(charged, ceiling, ceilings);
