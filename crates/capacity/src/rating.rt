@@ -1,6 +1,6 @@
 // A set's rating and hours, and their ranges.
-ghost use Rattle.std.specs.Prelude.{◌≡◌, ◌&&◌, ◌≤◌};
-ghost use Rattle.capacity.specs.Shortfall.{installed_most, rates_in_range, hours_in_range, unit_in_range, year_in_range};
+ghost use Rattle.std.specs.Prelude.{◌≡◌, ◌&&◌};
+ghost use Rattle.capacity.specs.Shortfall.{rates_in_range, hours_in_range, unit_in_range, year_in_range};
 
 use crate::InstalledWatts;
 use numbers::range::within;
@@ -48,6 +48,7 @@ impl Rating {
             && self.class <= 2
     }
 
+    // A product past the greatest number is above any deratings.
     #[tactic(auto, unfolding(crate::specs::Shortfall::hours_in_range))]
     fn hours_in_range(self, hours: HourCounts) -> bool
         ensures { result ≡ hours_in_range self hours }

@@ -1,5 +1,5 @@
 // A unit's shares over the sixteen parties, and the parties' nets in an area.
-ghost use Rattle.std.specs.Prelude.{◌≡◌, ◌*◌, ◌^◌, ◌≤◌, ◌<◌, pos, nat_abs};
+ghost use Rattle.std.specs.Prelude.{◌≡◌, ◌*◌, ◌^◌, ◌<◌, pos, nat_abs};
 ghost use Rattle.numbers.specs.Sum.{sum_below};
 ghost use Rattle.numbers.specs.Lists.{list_below, element};
 ghost use Rattle.numbers.specs.Split.{with_sign, split_signed};

@@ -1,9 +1,8 @@
 // From a set to its shortfall. The named formula functions here are where installed watts become unforced ones.
-ghost use Rattle.std.specs.Prelude.{◌≡◌, true, ◌&&◌, ◌+◌, ◌≤◌, ◌<◌, max, pos};
-ghost use Rattle.numbers.specs.Signed.{above};
+ghost use Rattle.std.specs.Prelude.{◌≡◌, true, ◌&&◌, ◌+◌, ◌≤◌, ◌<◌, pos};
 ghost use Rattle.capacity.specs.Quantities.{installed_watts, unforced_watts};
-ghost use Rattle.capacity.specs.Shortfall.{watt_days_answer, unforced, peak_rated, shortfall, unforced_capacity, quarters, limit, limited, unit_committed};
-ghost use Rattle.capacity.specs.Shortfall.{unit_available, unit_shortfall, limited_shortfall, shortfall_answer, installed_most, rate_most};
+ghost use Rattle.capacity.specs.Shortfall.{watt_days_answer, unforced, peak_rated, quarters, unit_committed};
+ghost use Rattle.capacity.specs.Shortfall.{unit_available, unit_shortfall, shortfall_answer, installed_most, rate_most};
 ghost use Rattle.capacity.specs.Shortfall.{unit_in_range, year_in_range, unit_limit};
 
 use crate::rating::{HourCounts, Rating, in_range};
@@ -34,7 +33,7 @@ impl InstalledWatts {
         requires { (self.0 ≤ installed_most) × (rate ≤ rate_most) }
         ensures { result ≡ unforced_watts (pos (unforced self.0 rate)) }
     {
-        UnforcedWatts::new(self.0 * (WHOLE - rate as u64) / WHOLE)
+        UnforcedWatts::new(self.0 * (WHOLE - u64::from(rate)) / WHOLE)
     }
 }
 
@@ -66,7 +65,7 @@ impl CommittedUnit {
         ensures hours { result.hours ≡ hours }
         ensures commitment { result.commitment ≡ installed_watts (unit_committed rating v days) }
     {
-        let average = v * WHOLE / ((WHOLE - rating.eford as u64) * days);
+        let average = v * WHOLE / ((WHOLE - u64::from(rating.eford)) * days);
         let commitment = InstalledWatts(rating.installed.0.min(average));
         Self {
             rating,

@@ -30,7 +30,7 @@ impl Cents {
     pub(crate) fn new(amount: u64) -> Self
         ensures { result ≡ cents (pos (min amount (2 ^ 63 - 1))) }
     {
-        Cents(amount.min(i64::MAX as u64) as i64)
+        Cents(i64::try_from(amount).unwrap_or(i64::MAX))
     }
 
     // a − b; 0 where either is past the greatest signed number.

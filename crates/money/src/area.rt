@@ -3,7 +3,7 @@ ghost use Rattle.std.specs.Prelude.{◌≡◌, true, cond, ◌&&◌, ◌+◌, �
 ghost use Rattle.std.proofs.Math.IntN.{sub_ℕ};
 ghost use Rattle.numbers.specs.Sum.{sum_below};
 ghost use Rattle.numbers.specs.Lists.{list_below, element};
-ghost use Rattle.numbers.specs.Signed.{above, below};
+ghost use Rattle.numbers.specs.Signed.{above};
 ghost use Rattle.numbers.specs.Split.{split};
 ghost use Rattle.capacity.specs.Quantities.{watts_of};
 ghost use Rattle.capacity.specs.Shares.{net_most};

@@ -1,6 +1,6 @@
 // The split, one for all who split: a unit's shortfall over parties, an area's charges over ceilings, and what is left of
 // them over obligations.
-ghost use Rattle.std.specs.Prelude.{◌≡◌, ◌&&◌, ◌+◌, ◌-◌, ◌*◌, ◌^◌, ◌<◌, min, ltb, length};
+ghost use Rattle.std.specs.Prelude.{◌≡◌, ◌&&◌, ◌-◌, ◌*◌, ◌^◌, ◌<◌, min, ltb, length};
 ghost use Rattle.numbers.specs.Sum.{sum_below};
 ghost use Rattle.numbers.specs.Lists.{list_below, element};
 ghost use Rattle.numbers.specs.Split.{split, split_answer};
