@@ -6,7 +6,7 @@ use Rattle.std.proofs.lemmas.List.{nil_from_length}
 use Rattle.std.proofs.lemmas.List.FromFn.{fill_by_all}
 use Rattle.std.specs.Iterator.{CallableAtEachTurn}
 use Rattle.std.proofs.lemmas.Fn.{serves_by}
-use denote.Param.Members.{Mut, Called}
+use Rattle.std.specs.Fn.{Mut, Called}
 use Rattle.numbers.specs.Lists.{list_below}
 use Rattle.numbers.proofs.Lists.{list_below-is}
 
