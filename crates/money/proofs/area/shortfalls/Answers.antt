@@ -1,9 +1,7 @@
-use Rattle.std.proofs.Common.{arith}
-use Rattle.numbers.proofs.CappedSums.{capped_none, capped_more}
+use Rattle.std.proofs.Common.{rules, pos}
+use Rattle.numbers.proofs.Arrays.{map-is}
+use Rattle.capacity.specs.Quantities.{unforced_watts}
 use Rattle.money.proofs.area.shortfalls.Goals as goal
 
-pub loop-p-init : goal.loop-p-init
-loop-p-init c = capped_none
-
-pub loop-p-preserved : goal.loop-p-preserved
-loop-p-preserved c = capped_more c.loop-p.invariant (omega arith) c.watts_above.ensures.0 c.capped_add-sum.ensures
+pub returns : goal.returns
+returns c = map-is (λ f. Unit {0}) c.args.nets (unforced_watts (pos 0)) _ (λ f p y q b captured called. search rules) tt c.map.ensures.items
