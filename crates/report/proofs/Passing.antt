@@ -212,15 +212,15 @@ module _ (size : ℕ) (s : List ℕ) where
 
         pub is_whole : {x : State} → x ≡ tried r (take k (rest s next)) → Going x (next + k)
         is_whole more =
-          let one = ap (λ (x : State). x.tried) more ∙ one_tried r (take k (rest s next)) in
-          let (least, inside, most, few) = whole_rest in
-          record {
-            left = g.left;
-            there = inside;
-            enough = omega (arith, g.enough);
-            same = rw (more, rest_is s next) (rw (rw (rest_is s next) at e) at g.same);
-            counts = omega (arith, one, g.counts, inside, least);
-          }
+            let one = ap (λ (x : State). x.tried) more ∙ one_tried r (take k (rest s next)) in
+            let (least, inside, most, few) = whole_rest in
+            record {
+              left = g.left;
+              there = inside;
+              enough = omega (arith, g.enough);
+              same = rw (more, rest_is s next) (rw (rw (rest_is s next) at e) at g.same);
+              counts = omega (arith, one, g.counts, inside, least);
+            }
 
     module _ (r : State) (at : ℕ) (g : Going r at) where
       pub full : size < length r.text + room → stopped r at stop.Full ≡ passed size first s

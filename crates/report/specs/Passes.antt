@@ -21,13 +21,16 @@ pub record State : Type 0 where
   pub accepted : ℕ
   pub text : List ℕ
 
+abbrev pub standing : Book → ℕ → ℕ → List ℕ → State
+standing book tried accepted text = record { book = book; tried = tried; accepted = accepted; text = text }
+
 -- what a report stands for
 abbrev pub state_of : {size : ℕ} → Report size → State
-state_of r = record { book = r.book; tried = r.tried; accepted = r.accepted; text = r.text.items }
+state_of r = standing r.book r.tried r.accepted r.text.items
 
 -- nothing was entered or tried, and nothing is to be printed
 abbrev pub at_first : State
-at_first = record { book = empty_book; tried = 0; accepted = 0; text = [] }
+at_first = standing empty_book 0 0 []
 
 -- the area of a Post
 abbrev pub post_area : List ℕ → ℕ
@@ -111,7 +114,7 @@ Left next counted before s = (next ≤ length s) × (counted + (length s - next)
 
 -- with all of the text printed
 abbrev pub emptied : State → State
-emptied r = record { book = r.book; tried = r.tried; accepted = r.accepted; text = [] }
+emptied r = standing r.book r.tried r.accepted []
 
 -- so many records, if the count of records tried fits 64 bits with them; else none
 unfoldable pub countable : ℕ → ℕ → ℕ

@@ -4,7 +4,7 @@
 ghost use Rattle.std.specs.Prelude.{◌≡◌, [], ◌+◌, ◌≤◌, ◌<◌, ◌^◌, min, length, take, Ok};
 ghost use Rattle.book.specs.Runs.{hours_between};
 ghost use Rattle.report.specs.Printed.{lines_most, pair_most};
-ghost use Rattle.report.specs.Passes.{State, state_of, at_first, post_area, tried, HoursTaken, stopped, passed, free, room, Left, emptied, countable, pass_answer, text_given, close_answer, finish_answer};
+ghost use Rattle.report.specs.Passes.{State, standing, state_of, at_first, post_area, tried, HoursTaken, stopped, passed, free, room, Left, emptied, countable, pass_answer, text_given, close_answer, finish_answer};
 
 use crate::standing::Report;
 use crate::text::{LINES_MOST, PAIR_MOST, put_end, put_lines, put_refusal};
@@ -59,6 +59,38 @@ impl<const SIZE: usize> Report<SIZE> {
             accepted: 0,
             text: ArrayVec::new(),
         }
+    }
+
+    // A run from any standing; no more records are accepted than tried.
+    pub fn resume(book: Book, tried: u64, accepted: u64, text: ArrayVec<u8, SIZE>) -> Self
+        requires { Sound book }
+        ensures { (state_of result ≡ standing book tried (min accepted tried) text.entry.items) × Sound result.book }
+    {
+        Self {
+            book,
+            tried,
+            accepted: accepted.min(tried),
+            text,
+        }
+    }
+
+    // The book, the records tried and accepted, and the text.
+    pub fn into_parts(self) -> (Book, u64, u64, ArrayVec<u8, SIZE>)
+        ensures { standing result.0 result.1 result.2 result.3.items ≡ state_of self.entry }
+    {
+        let Self {
+            book,
+            tried,
+            accepted,
+            text,
+        } = self;
+        (book, tried, accepted, text)
+    }
+
+    pub fn tried(&self) -> u64
+        ensures { result ≡ self.now.tried }
+    {
+        self.tried
     }
 
     // A string is tried: entered, counted, and its answer printed.
