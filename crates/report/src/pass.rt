@@ -63,8 +63,7 @@ impl<const SIZE: usize> Report<SIZE> {
 
     // A run from any standing; no more records are accepted than tried.
     pub fn resume(book: Book, tried: u64, accepted: u64, text: ArrayVec<u8, SIZE>) -> Self
-        requires { Sound book }
-        ensures { (state_of result ≡ standing book tried (min accepted tried) text.entry.items) × Sound result.book }
+        ensures { state_of result ≡ standing book tried (min accepted tried) text.entry.items }
     {
         Self {
             book,
