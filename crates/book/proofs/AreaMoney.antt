@@ -1,5 +1,5 @@
 -- An area's money in a sound book: it is in the ranges of `capacity` and `money`, so that each answer is what 01 defines.
-use Rattle.std.proofs.Common.{◌≡◌, refl, ap, ◌∙◌, true, List, [], ℕ, ◌≤◌, ◌<◌, le_refl, ℤ, pos}
+use Rattle.std.proofs.Common.{◌≡◌, refl, ap, ◌∙◌, true, List, [], Result, Ok, Err, ℕ, ◌≤◌, ◌<◌, le_refl, ℤ, pos, Bool, false, cond}
 use Rattle.std.proofs.Common.{nat_abs, get_or, set, le-leb}
 use Rattle.std.proofs.lemmas.List.{get_or_default}
 use Rattle.numbers.specs.Lists.{list_below, element}
@@ -10,7 +10,7 @@ use Rattle.calendar.specs.DeliveryYear.{delivery_days}
 use Rattle.capacity.specs.declared.UnforcedWatts.{UnforcedWatts}
 use Rattle.capacity.specs.Quantities.{unforced_watts, watts_of}
 use Rattle.money.specs.declared.Cents.{Cents}
-use Rattle.money.specs.declared.area.AreaMoney.{AreaMoney}
+use Rattle.money.specs.declared.area.Undistributed.{Undistributed}
 use Rattle.money.specs.Quantities.{cents, cents_of}
 use Rattle.money.specs.AreaMoney.{due_most, area_in_range, settled, money_answer}
 use Rattle.money.specs.Lines.{line, line_answer, lines_answer}
@@ -18,13 +18,32 @@ use Rattle.money.proofs.Bounds.{due_bound}
 use Rattle.money.proofs.Sixteen.{range_same, settled_same}
 use Rattle.records.specs.Format.{area_count, party_count}
 use Rattle.rules.specs.Facts.{Facts}
-use Rattle.rules.specs.Dues.{days, net_in, due_in, undistributed_in, settled_in}
+use Rattle.rules.specs.Dues.{days, net_in, due_in, undistributed_in, dues_in, settled_in}
 use Rattle.book.specs.Books.{Book, no_obligations, no_sums, posted_in, facts_of_book, Sound}
 use Rattle.book.specs.Entered.{post_lines, posted_after}
 use Rattle.book.proofs.AreaNets.{element_of, watts_at, days_in_range, nets_in_range}
 
 cents_at : (f : ℕ → ℤ) {l : List Cents} → l ≡ list_below party_count (λ p. cents (f p)) → (p : ℕ) → p < party_count → cents_of l p ≡ f p
 cents_at f e p h = ap (λ (c : Cents). c.0) (element_of (λ q. cents (f q)) e p (cents (pos 0)) h)
+
+-- whether money is left over, and the dues, by what an area comes to
+module _ (F : Facts) (a : ℕ) where
+  abbrev come_to : Bool → Result (List Cents) Undistributed
+  come_to t = cond t (Err (record { dues = dues_in F a })) (Ok (dues_in F a))
+
+  pub distributed : {given : List Cents} → Ok given ≡ settled_in F a → (undistributed_in F a ≡ false) × (given ≡ dues_in F a)
+  distributed {given} = go (undistributed_in F a)
+    where
+      go : (t : Bool) → Ok given ≡ come_to t → (t ≡ false) × (given ≡ dues_in F a)
+      go true e = cc
+      go false e = (refl, cc)
+
+  pub left_over : {given : Undistributed} → Err given ≡ settled_in F a → undistributed_in F a ≡ true
+  left_over {given} = go (undistributed_in F a)
+    where
+      go : (t : Bool) → Err given ≡ come_to t → t ≡ true
+      go true e = refl
+      go false e = cc
 
 -- what a settled area holds
 settled_is : (F : Facts) (a : ℕ) → settled (net_in F a) (F.area a).price (days F) (F.obligation a) ≡ settled_in F a
@@ -49,7 +68,7 @@ module _ (b : Book) where
   unfolding due_in
   due_most_lem s a p h = due_bound (net_in F a) (F.area a).price (delivery_days b.year) (F.obligation a) p h (area_range s a)
 
-  pub money_settled : Sound b → (a : ℕ) → a < area_count → {nets : List UnforcedWatts} {os : List ℕ} {n : ℕ} {m : AreaMoney}
+  pub money_settled : Sound b → (a : ℕ) → a < area_count → {nets : List UnforcedWatts} {os : List ℕ} {n : ℕ} {m : Result (List Cents) Undistributed}
       → nets ≡ list_below party_count (λ p. unforced_watts (net_in F a p)) → os ≡ list_below party_count (element (get_or b.obligations a [])) → n ≡ days F
       → m ≡ money_answer nets (F.area a).price n os → m ≡ settled_in F a
   unfolding money_answer

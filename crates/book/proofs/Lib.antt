@@ -1,7 +1,6 @@
 pub mod Ranges
 pub mod AreaNets
 pub mod AreaMoney
-pub mod Loops
 pub mod Soundness
 pub mod Answers
 pub mod HourRuns

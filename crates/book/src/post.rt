@@ -14,7 +14,7 @@ use capacity::UnforcedWatts;
 use capacity::shares::{add_shares, no_nets, unit_shares};
 use capacity::shortfall::watt_days;
 use money::Cents;
-use money::area::{AreaMoney, area_money};
+use money::area::{Undistributed, area_money};
 use money::lines::lines;
 use records::format::CommitmentRecord;
 use rules::indices::index;
@@ -42,13 +42,17 @@ impl Book {
         ensures { result ≡ list_below party_count (λ p. unforced_watts (net_in (facts_of_book self.now) area p)) }
     {
         let days = delivery_days(self.year) as u64;
-        let commitments = &self.commitments;
-        let units = &self.units;
         let mut nets = no_nets();
-        for (k, u) in units.iter().enumerate() {
+        for (k, u) in self.units.iter().enumerate() {
             let is_here = u.entry.area as usize == area + 1;
             if is_here {
-                let shares = unit_shares(u.entry.rating, u.hours, parts(commitments, k), days);
+                let shares = unit_shares(
+                    u.entry.rating,
+                    u.hours,
+                    parts(&self.commitments, k),
+                    days,
+                );
+                // By a local, as no proof is made for a call that is assigned to an array.
                 let more = add_shares(nets, shares);
                 nets = more;
             }
@@ -57,7 +61,7 @@ impl Book {
     }
 
     // What an area comes to.
-    fn area_settled(&self, area: usize) -> AreaMoney
+    fn area_settled(&self, area: usize) -> Result<[Cents; Book::PARTIES], Undistributed>
         requires { area < area_count }
         ensures { result ≡ settled_in (facts_of_book self.now) area }
     {
@@ -72,13 +76,13 @@ impl Book {
         requires { area < area_count }
         ensures { answered result self.new ≡ post_answer self.old area }
     {
-        let money = self.area_settled(area);
-        if money.undistributed {
-            return Err(Refusal::Undistributed);
+        match self.area_settled(area) {
+            Ok(dues) => {
+                let lines = lines(dues, self.posted[area]);
+                self.posted[area] = dues;
+                Ok(lines)
+            }
+            Err(_) => Err(Refusal::Undistributed),
         }
-        let dues = money.dues;
-        let lines = lines(dues, self.posted[area]);
-        self.posted[area] = dues;
-        Ok(lines)
     }
 }

@@ -12,7 +12,7 @@ ghost use Rattle.capacity.specs.Quantities.{installed_watts};
 pub struct InstalledWatts(u64);
 
 // Unforced capacity (UCAP): U, X, G, P and the limit; a shortfall, which below zero is an excess; shares and nets of it.
-#[derive(Clone, Copy)]
+#[derive(Clone, Copy, PartialEq, Eq, PartialOrd, Ord)]
 pub struct UnforcedWatts(i64);
 
 impl InstalledWatts {
@@ -29,7 +29,7 @@ impl InstalledWatts {
     }
 }
 
-pub mod amounts;
+mod amounts;
 pub mod laws;
 pub mod rating;
 pub mod shares;

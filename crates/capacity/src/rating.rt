@@ -1,6 +1,6 @@
 // A set's rating and hours, and their ranges.
-ghost use Rattle.std.specs.Prelude.{◌≡◌, ◌&&◌, ◌≤◌, ◌<◌};
-ghost use Rattle.capacity.specs.Shortfall.{installed_most, rates_in_range, hours_in_range, unit_in_range, year_in_range};
+ghost use Rattle.std.specs.Prelude.{◌≡◌, ◌&&◌};
+ghost use Rattle.capacity.specs.Shortfall.{rates_in_range, hours_in_range, unit_in_range, year_in_range};
 
 use crate::InstalledWatts;
 use numbers::range::within;
@@ -14,6 +14,7 @@ pub struct Rating {
     pub eford: u32,
     pub eford5: u32,
     pub efordyear: u32,
+    // A number, since a record states any byte: to refuse another than 0, 1 and 2 is the task of row 6.
     pub class: u32,
 }
 
@@ -36,62 +37,47 @@ const HOURS_MOST: u64 = 8_784;
 
 const WATT_DAYS_MOST: u64 = 117_120_000_000;
 
-fn rates_in_range(rating: Rating) -> bool
-    ensures { result ≡ rates_in_range rating }
-{
-    if RATE_MOST < rating.eford {
-        return false;
+impl Rating {
+    #[tactic(auto, unfolding(crate::specs::Shortfall::rates_in_range))]
+    fn rates_in_range(self) -> bool
+        ensures { result ≡ rates_in_range self }
+    {
+        self.eford <= RATE_MOST
+            && self.eford5 <= RATE_MOST
+            && self.efordyear <= RATE_MOST
+            && self.class <= 2
     }
-    if RATE_MOST < rating.eford5 {
-        return false;
+
+    // A product past the greatest number is above any deratings.
+    #[tactic(auto, unfolding(crate::specs::Shortfall::hours_in_range))]
+    fn hours_in_range(self, hours: HourCounts) -> bool
+        ensures { result ≡ hours_in_range self hours }
+    {
+        hours.service <= HOURS_MOST
+            && hours.outage <= HOURS_MOST
+            && hours.derated <= hours.service.saturating_mul(self.installed.0)
     }
-    if RATE_MOST < rating.efordyear {
-        return false;
+
+    #[tactic(auto, unfolding(crate::specs::Shortfall::unit_in_range))]
+    fn unit_in_range(self, hours: HourCounts) -> bool
+        ensures { result ≡ unit_in_range self hours }
+    {
+        within(1, INSTALLED_MOST, self.installed.0)
+            && self.rates_in_range()
+            && self.hours_in_range(hours)
     }
-    rating.class <= 2
 }
 
-fn hours_in_range(rating: Rating, hours: HourCounts) -> bool
-    requires { rating.installed.0 ≤ installed_most }
-    ensures { result ≡ hours_in_range rating hours }
-{
-    if HOURS_MOST < hours.service {
-        return false;
-    }
-    if HOURS_MOST < hours.outage {
-        return false;
-    }
-    let i = rating.installed;
-    hours.derated <= hours.service * i.0
-}
-
-fn unit_in_range(rating: Rating, hours: HourCounts) -> bool
-    ensures { result ≡ unit_in_range rating hours }
-{
-    let i = rating.installed;
-    if within(1, INSTALLED_MOST, i.0) {
-        if rates_in_range(rating) {
-            return hours_in_range(rating, hours);
-        }
-    }
-    false
-}
-
+#[tactic(auto, unfolding(crate::specs::Shortfall::year_in_range))]
 fn year_in_range(v: u64, days: u64) -> bool
     ensures { result ≡ year_in_range v days }
 {
-    if WATT_DAYS_MOST < v {
-        return false;
-    }
-    within(365, 366, days)
+    v <= WATT_DAYS_MOST && within(365, 366, days)
 }
 
 // Whether a unit's rating and hours, its watt-days and the days of the year are in range.
 pub(crate) fn in_range(rating: Rating, hours: HourCounts, v: u64, days: u64) -> bool
     ensures { result ≡ (unit_in_range rating hours && year_in_range v days) }
 {
-    if unit_in_range(rating, hours) {
-        return year_in_range(v, days);
-    }
-    false
+    rating.unit_in_range(hours) && year_in_range(v, days)
 }

@@ -1,12 +1,10 @@
 // From a set to its shortfall. The named formula functions here are where installed watts become unforced ones.
-ghost use Rattle.std.specs.Prelude.{◌≡◌, true, ◌&&◌, ◌+◌, ◌≤◌, ◌<◌, max, pos};
-ghost use Rattle.numbers.specs.Signed.{above};
+ghost use Rattle.std.specs.Prelude.{◌≡◌, true, ◌&&◌, ◌+◌, ◌≤◌, ◌<◌, pos};
 ghost use Rattle.capacity.specs.Quantities.{installed_watts, unforced_watts};
-ghost use Rattle.capacity.specs.Shortfall.{watt_days_answer, unforced, peak_rated, shortfall, unforced_capacity, quarters, limit, limited, unit_committed};
-ghost use Rattle.capacity.specs.Shortfall.{unit_available, unit_shortfall, limited_shortfall, shortfall_answer, installed_most, rate_most, watt_days_most};
-ghost use Rattle.capacity.specs.Shortfall.{unit_in_range, year_in_range};
+ghost use Rattle.capacity.specs.Shortfall.{watt_days_answer, unforced, peak_rated, quarters, unit_committed};
+ghost use Rattle.capacity.specs.Shortfall.{unit_available, unit_shortfall, shortfall_answer, installed_most, rate_most};
+ghost use Rattle.capacity.specs.Shortfall.{unit_in_range, year_in_range, unit_limit};
 
-use crate::amounts::{unforced_difference, unforced_watts, watts_above};
 use crate::rating::{HourCounts, Rating, in_range};
 use crate::{InstalledWatts, UnforcedWatts};
 
@@ -15,91 +13,31 @@ const COMMITMENT_MOST: u64 = 5_000_000;
 const LAST_DAY: u64 = 365;
 
 // A commitment's watt-days; 0 where it is out of range.
+#[tactic(auto, unfolding(crate::specs::Shortfall::watt_days, crate::specs::Shortfall::watt_days_answer))]
 pub fn watt_days(watts: u64, first: u64, last: u64) -> u64
     ensures { result ≡ watt_days_answer watts first last }
 {
-    if COMMITMENT_MOST < watts {
-        return 0;
+    if watts <= COMMITMENT_MOST && first <= last && last <= LAST_DAY {
+        watts * (last - first + 1)
+    } else {
+        0
     }
-    if last < first {
-        return 0;
-    }
-    if LAST_DAY < last {
-        return 0;
-    }
-    watts * (last - first + 1)
 }
 
 const WHOLE: u64 = 100_000;
 
-// T, the installed watts that are committed.
-fn committed(rating: Rating, v: u64, days: u64) -> InstalledWatts
-    requires { (rating.eford ≤ rate_most) × (v ≤ watt_days_most) × (365 ≤ days) × (days ≤ 366) }
-    ensures { result ≡ installed_watts (unit_committed rating v days) }
-{
-    let i = rating.installed;
-    let average = v * WHOLE / ((WHOLE - rating.eford as u64) * days);
-    if average < i.0 {
-        InstalledWatts(average)
-    } else {
-        i
+impl InstalledWatts {
+    // The unforced watts at an outage rate: X of T at f, G of T at g, and U of I at e.
+    #[tactic(auto, unfolding(crate::specs::Shortfall::unforced))]
+    fn unforced(self, rate: u32) -> UnforcedWatts
+        requires { (self.0 ≤ installed_most) × (rate ≤ rate_most) }
+        ensures { result ≡ unforced_watts (pos (unforced self.0 rate)) }
+    {
+        UnforcedWatts::new(self.0 * (WHOLE - u64::from(rate)) / WHOLE)
     }
 }
 
-// The unforced watts of installed ones at an outage rate: X of T at f, G of T at g, and U of I at e.
-fn unforced(w: InstalledWatts, rate: u32) -> UnforcedWatts
-    requires { (w.0 ≤ installed_most) × (rate ≤ rate_most) }
-    ensures { result ≡ unforced_watts (pos (unforced w.0 rate)) }
-{
-    unforced_watts(w.0 * (WHOLE - rate as u64) / WHOLE)
-}
-
-// P before rule (f) of section 10, by one floor.
-fn peak_rated(t: InstalledWatts, rating: Rating, hours: HourCounts) -> UnforcedWatts
-    requires { (t.0 ≤ installed_most) × (unit_in_range rating hours ≡ true) × (0 < hours.service + hours.outage) }
-    ensures { result ≡ unforced_watts (pos (peak_rated t.0 rating.installed.0 hours.service hours.outage hours.derated)) }
-{
-    let i = rating.installed;
-    let p = t.0 * (hours.service * i.0 - hours.derated) / (i.0 * (hours.service + hours.outage));
-    unforced_watts(p)
-}
-
-// The higher of two that are not below zero.
-fn higher(a: UnforcedWatts, b: UnforcedWatts) -> UnforcedWatts
-    ensures { result ≡ unforced_watts (pos (max (above a.0) (above b.0))) }
-{
-    let x = watts_above(a);
-    let y = watts_above(b);
-    if x < y {
-        unforced_watts(y)
-    } else {
-        unforced_watts(x)
-    }
-}
-
-// P.
-fn available(t: InstalledWatts, rating: Rating, hours: HourCounts) -> UnforcedWatts
-    requires { (t.0 ≤ installed_most) × (unit_in_range rating hours ≡ true) }
-    ensures { result ≡ unforced_watts (pos (unit_available rating hours t.0)) }
-{
-    let g = unforced(t, rating.efordyear);
-    if hours.service + hours.outage == 0 {
-        return g;
-    }
-    let p = peak_rated(t, rating, hours);
-    if hours.service < 50 {
-        return higher(p, g);
-    }
-    p
-}
-
-// S, of X and P.
-fn shortfall(x: UnforcedWatts, p: UnforcedWatts) -> UnforcedWatts
-    ensures { result ≡ unforced_watts (shortfall (above x.0) (above p.0)) }
-{
-    unforced_difference(watts_above(x), watts_above(p))
-}
-
+#[tactic(auto, unfolding(crate::specs::Shortfall::quarters))]
 fn quarters(class: u32) -> u64
     ensures { (result ≡ quarters class) × (result ≤ 4) }
 {
@@ -110,59 +48,91 @@ fn quarters(class: u32) -> u64
     }
 }
 
-// L, of U.
-fn limit(u: UnforcedWatts, class: u32) -> UnforcedWatts
-    requires { above u.0 ≤ installed_most }
-    ensures { result ≡ unforced_watts (pos (limit (above u.0) class)) }
-{
-    unforced_watts(watts_above(u) * quarters(class) / 4)
+// A unit whose rating and hours are in range, with T, the installed watts that are committed.
+#[derive(Clone, Copy)]
+struct CommittedUnit {
+    rating: Rating,
+    hours: HourCounts,
+    commitment: InstalledWatts,
+    ghost in_range: { unit_in_range rating hours ≡ true },
+    ghost at_most: { commitment.0 ≤ installed_most },
 }
 
-// S after the limit.
-fn limited(s: UnforcedWatts, l: UnforcedWatts) -> UnforcedWatts
-    ensures { result ≡ unforced_watts (limited (above l.0) s.0) }
-{
-    let most = watts_above(l);
-    if most < watts_above(s) {
-        unforced_watts(most)
-    } else {
-        s
+impl CommittedUnit {
+    fn new(rating: Rating, hours: HourCounts, v: u64, days: u64) -> Self
+        requires { (unit_in_range rating hours && year_in_range v days) ≡ true }
+        ensures rating { result.rating ≡ rating }
+        ensures hours { result.hours ≡ hours }
+        ensures commitment { result.commitment ≡ installed_watts (unit_committed rating v days) }
+    {
+        let average = v * WHOLE / ((WHOLE - u64::from(rating.eford)) * days);
+        let commitment = InstalledWatts(rating.installed.0.min(average));
+        Self {
+            rating,
+            hours,
+            commitment,
+        }
     }
-}
 
-// S at T.
-fn unit_shortfall(t: InstalledWatts, rating: Rating, hours: HourCounts) -> UnforcedWatts
-    requires { (t.0 ≤ installed_most) × (unit_in_range rating hours ≡ true) }
-    ensures { result ≡ unforced_watts (unit_shortfall rating hours t.0) }
-{
-    shortfall(unforced(t, rating.eford5), available(t, rating, hours))
-}
+    // P before rule (f) of section 10, by one floor.
+    #[tactic(auto, unfolding(crate::specs::Shortfall::peak_rated))]
+    fn peak_rated(self) -> UnforcedWatts
+        requires { 0 < self.hours.service + self.hours.outage }
+        ensures { result ≡ unforced_watts (pos (peak_rated self.commitment.0 self.rating.installed.0 self.hours.service self.hours.outage self.hours.derated)) }
+    {
+        let HourCounts {
+            service,
+            outage,
+            derated,
+        } = self.hours;
+        let t = self.commitment.0;
+        let i = self.rating.installed.0;
+        UnforcedWatts::new(t * (service * i - derated) / (i * (service + outage)))
+    }
 
-// L, from I.
-fn unit_limit(i: InstalledWatts, rating: Rating) -> UnforcedWatts
-    requires { (i.0 ≤ installed_most) × (rating.eford ≤ rate_most) }
-    ensures { result ≡ unforced_watts (pos (limit (unforced_capacity i.0 rating.eford) rating.class)) }
-{
-    limit(unforced(i, rating.eford), rating.class)
-}
+    // P.
+    #[tactic(auto, unfolding(crate::specs::Shortfall::available))]
+    fn available(self) -> UnforcedWatts
+        ensures { result ≡ unforced_watts (pos (unit_available self.rating self.hours self.commitment.0)) }
+    {
+        let year_rated = self.commitment.unforced(self.rating.efordyear);
+        if self.hours.service + self.hours.outage == 0 {
+            year_rated
+        } else if self.hours.service < 50 {
+            self.peak_rated().max(year_rated)
+        } else {
+            self.peak_rated()
+        }
+    }
 
-// S after the limit, in range.
-fn limited_in_range(rating: Rating, hours: HourCounts, v: u64, days: u64) -> UnforcedWatts
-    requires { (unit_in_range rating hours && year_in_range v days) ≡ true }
-    ensures { result ≡ unforced_watts (limited_shortfall rating hours v days) }
-{
-    let i = rating.installed;
-    let t = committed(rating, v, days);
-    limited(unit_shortfall(t, rating, hours), unit_limit(i, rating))
+    // S, of X and P.
+    fn shortfall(self) -> UnforcedWatts
+        ensures { result ≡ unforced_watts (unit_shortfall self.rating self.hours self.commitment.0) }
+    {
+        let expected = self.commitment.unforced(self.rating.eford5);
+        UnforcedWatts::difference(expected.above(), self.available().above())
+    }
+
+    // L, of U.
+    fn limit(self) -> UnforcedWatts
+        ensures { result ≡ unforced_watts (pos (unit_limit self.rating)) }
+    {
+        let unforced = self.rating.installed.unforced(self.rating.eford);
+        UnforcedWatts::new(unforced.above() * quarters(self.rating.class) / 4)
+    }
 }
 
 // A unit's limited shortfall, from its rating, its hours, its V watt-days and the days of the delivery year; 0 where these are
 // out of range.
+#[tactic(auto, unfolding(crate::specs::Shortfall::shortfall_answer))]
 pub fn limited_shortfall(rating: Rating, hours: HourCounts, v: u64, days: u64) -> UnforcedWatts
     ensures { result ≡ unforced_watts (shortfall_answer rating hours v days) }
 {
     if in_range(rating, hours, v, days) {
-        return limited_in_range(rating, hours, v, days);
+        // A shortfall above the limit becomes the limit; an excess, which is below zero, has none.
+        let unit = CommittedUnit::new(rating, hours, v, days);
+        unit.shortfall().min(unit.limit())
+    } else {
+        UnforcedWatts(0)
     }
-    unforced_watts(0)
 }

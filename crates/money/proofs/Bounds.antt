@@ -1,5 +1,5 @@
 -- What an area's facts in range have, and why 64 bits are enough for its money.
-use Rattle.std.proofs.Common.{◌≡◌, true, ℕ, zero, suc, ◌+◌, ◌*◌, ◌^◌, ◌≤◌, ◌<◌, zero-le, le_trans, add-mul, mul-le-mul, arith, ℤ, nat_abs, ◌-ℤ◌}
+use Rattle.std.proofs.Common.{min, ◌-◌, ◌/◌, ◌≡◌, true, ℕ, zero, suc, ◌+◌, ◌*◌, ◌^◌, ◌≤◌, ◌<◌, zero-le, le_trans, add-mul, mul-le-mul, arith, ℤ, nat_abs, ◌-ℤ◌}
 use Rattle.std.proofs.Common.{leb-true}
 use native.Mathlib.Nat.{div-le_of_le-mul}
 use Rattle.numbers.specs.Sum.{sum_below}
@@ -109,3 +109,7 @@ pub record PricedFits (watts price days : ℕ) : Type 0 where
 
 pub priced_fits : {watts price days : ℕ} → watts ≤ net_most → price ≤ 50000 → days ≤ 366 → PricedFits watts price days
 priced_fits w p d = record { once = mul-le-mul {n₂ = net_most} {m₂ = 50000} w p; whole = priced_bound _ _ _ w p d }
+
+pub priced_kept : {watts price days : ℕ} → PricedFits watts price days → min (watts * price * days / 1000000) (2 ^ 63 - 1) ≡ priced watts price days
+unfolding priced
+priced_kept fits = omega (arith, fits.whole)

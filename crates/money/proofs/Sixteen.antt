@@ -5,8 +5,7 @@ use Rattle.numbers.proofs.Sums.{sum_same}
 use Rattle.numbers.proofs.Lists.{list_same}
 use Rattle.numbers.proofs.Splits.{split_same}
 use Rattle.money.specs.Quantities.{cents}
-use Rattle.money.specs.AreaMoney.{charge, ceiling, charges, ceilings, credit, left, load_share, due, is_undistributed, watts_in_range, area_in_range, settled}
-use Rattle.money.proofs.Dues.{money_same}
+use Rattle.money.specs.AreaMoney.{charge, ceiling, charges, ceilings, credit, left, load_share, due, is_undistributed, watts_in_range, area_in_range, each_due, settled}
 
 watts_range_same : (N N' : ℕ → ℤ) → ((p : ℕ) → p < 16 → N p ≡ N' p) → watts_in_range N ≡ watts_in_range N'
 unfolding watts_in_range
@@ -58,4 +57,7 @@ module _ (N N' : ℕ → ℤ) (price days : ℕ) (o o' : ℕ → ℕ) (same : (p
 
   pub settled_same : settled N price days o ≡ settled N' price days o'
   unfolding settled
-  settled_same = money_same undistributed_same (list_same 16 _ _ (λ p h. ap cents (due_same p h)))
+  settled_same = rw (undistributed_same, dues_same)
+    where
+      dues_same : each_due N price days o ≡ each_due N' price days o'
+      dues_same = list_same 16 _ _ (λ p h. ap cents (due_same p h))

@@ -1,6 +1,6 @@
 -- Area money. 01, the section of that name; 002 (j) and (k). Party number p of 01 is p − 1 here.
 -- The facts of an area: each party's net N and obligation, the price, and the days of the delivery year.
-use Rattle.std.specs.Prelude.{Bool, false, cond, ◌&&◌, List, ℕ, ◌+◌, ◌-◌, ◌*◌, ◌/◌, ℤ, pos, eqb, ltb, leb}
+use Rattle.std.specs.Prelude.{Bool, cond, ◌&&◌, List, Result, Ok, Err, ℕ, ◌+◌, ◌-◌, ◌*◌, ◌/◌, ℤ, pos, eqb, ltb, leb}
 use Rattle.std.proofs.Math.IntN.{sub_ℕ}
 use Rattle.numbers.specs.Sum.{sum_below}
 use Rattle.numbers.specs.Lists.{list_below, element}
@@ -9,7 +9,8 @@ use Rattle.numbers.specs.Split.{split}
 use Rattle.capacity.specs.declared.UnforcedWatts.{UnforcedWatts}
 use Rattle.capacity.specs.Quantities.{watts_of}
 use Rattle.capacity.specs.Shares.{net_most}
-use Rattle.money.specs.declared.area.AreaMoney.{AreaMoney}
+use Rattle.money.specs.declared.Cents.{Cents}
+use Rattle.money.specs.declared.area.Undistributed.{Undistributed}
 use Rattle.money.specs.Quantities.{cents}
 
 -- N × price × days / 1,000,000: cents for so many watts at a price in cents per MW-day
@@ -70,13 +71,17 @@ module _ (N : ℕ → ℤ) (price days : ℕ) where
     unfoldable pub area_in_range : Bool
     area_in_range = leb price 50000 && (leb days 366 && (leb (sum_below 16 obligation) obligations_most && watts_in_range N))
 
-    -- whether refusal 11 fits, and the sixteen dues
-    unfoldable pub settled : AreaMoney
-    settled = record { undistributed = is_undistributed; dues = list_below 16 (λ p. cents (due p)) }
+    -- the sixteen dues
+    abbrev pub each_due : List Cents
+    each_due = list_below 16 (λ p. cents (due p))
+
+    -- the sixteen dues; where refusal 11 fits, they stand in the error
+    unfoldable pub settled : Result (List Cents) Undistributed
+    settled = cond is_undistributed (Err (record { dues = each_due })) (Ok each_due)
 
 -- What the public function answers. Out of these ranges refusal 11 does not fit and the dues are 0.
-unfoldable pub money_answer : List UnforcedWatts → ℕ → ℕ → List ℕ → AreaMoney
+unfoldable pub money_answer : List UnforcedWatts → ℕ → ℕ → List ℕ → Result (List Cents) Undistributed
 money_answer nets price days obligations =
     cond (area_in_range (watts_of nets) price days (element obligations))
     (settled (watts_of nets) price days (element obligations))
-    (record { undistributed = false; dues = list_below 16 (λ p. cents (pos 0)) })
+    (Ok (list_below 16 (λ p. cents (pos 0))))

@@ -1,9 +1,8 @@
 -- One turn of a split's loop, and what its tests say.
 use Rattle.std.proofs.Common.{◌≡◌, refl, sym, ap, ◌∙◌, Bool, true, false, cond, ◌&&◌, List, ℕ, zero, suc, ◌+◌, ◌-◌, ◌*◌, ◌/◌, ◌^◌, ◌≤◌, ◌<◌, min}
-use Rattle.std.proofs.Common.{mul_comm, mul-le-mul_left, le-mul_of_pos_right, le-div_iff_mul-le, div-lt_iff_lt-mul, arith, ltb, leb, length, ltb-true}
-use Rattle.std.proofs.Common.{ltb-false, lt-ltb, le-leb}
+use Rattle.std.proofs.Common.{mul_comm, mul-le-mul_left, le-mul_of_pos_right, arith, ltb, length, ltb-true}
+use Rattle.std.proofs.Common.{ltb-false, lt-ltb}
 use lib.ListN.{get_or-eq_default}
-use borrow.Author.Tests.{lt-leb}
 use Rattle.numbers.specs.Sum.{sum_below}
 use Rattle.numbers.specs.Lists.{list_below, element}
 use Rattle.numbers.specs.Split.{first_shares, split, split_answer}
@@ -48,14 +47,7 @@ turn a ws {z} {sum} {given} {k} {w} isz issum isgiven isw =
       share = rw (first, isgiven);
     }
 
--- an amount is within the limit over z exactly where their product is below 2^63
-pub product_test : {a z : ℕ} → 0 < a → 0 < z → leb a ((2 ^ 63 - 1) / z) ≡ (ltb 0 a && (ltb 0 z && ltb (a * z) (2 ^ 63)))
-product_test {a} {z} ha hz = simp (lt-ltb 0 a ha, lt-ltb 0 z hz) (go (ltb (a * z) (2 ^ 63)) refl)
-  where
-    go : (t : Bool) → ltb (a * z) (2 ^ 63) ≡ t → leb a ((2 ^ 63 - 1) / z) ≡ t
-    go true q = le-leb a _ ((le-div_iff_mul-le hz).1 (omega (arith, ltb-true (a * z) (2 ^ 63) q)))
-    go false q = lt-leb a _ ((div-lt_iff_lt-mul hz).1 (omega (arith, ltb-false (a * z) (2 ^ 63) q)))
-
+-- there is something to split, somebody to get it, and their product is below 2^63
 abbrev Found : ℕ → ℕ → Bool
 Found a z = ltb 0 a && (ltb 0 z && ltb (a * z) (2 ^ 63))
 
@@ -98,7 +90,7 @@ answer_none a ws n {z} isz e = go (ltb (a * total ws) (2 ^ 63)) refl
     go false q = refl
     go true q = list_same n (λ k. 0) shares (λ k b. nothing (ltb 0 a) (ltb 0 z) refl refl (ltb-true (a * total ws) (2 ^ 63) q) k)
 
--- what `split_by_party` answers for party k, where the product fits
+-- what `split_array` answers for party k of sixteen, where the product fits
 pub record PartyShare (a : ℕ) (ws r : List ℕ) (k : ℕ) : Type 0 where
   pub is : element r k ≡ split a 16 (element ws) k
   pub fits : element r k < 2 ^ 63

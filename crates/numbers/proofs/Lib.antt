@@ -8,4 +8,5 @@ pub mod SignedSums
 pub mod Splits
 pub mod Sizes
 pub mod Distribution
+pub mod Arrays
 pub mod Rows

@@ -4,6 +4,10 @@ use Rattle.std.proofs.Common.{add-zero, add-one, arith, ltb, eqb, length, get_or
 use Rattle.std.proofs.Common.{get_or-append-add, get_or-set_same, get_or-set_other, ltb-true, ltb-false, eqb-true}
 use lib.ListN.{get_or-append, get_or-eq_default}
 use borrow.Author.Tests.{eqb-false}
+use Rattle.std.proofs.Common.{map, replicate}
+use Rattle.std.specs.List.{range_with_len}
+use Rattle.std.proofs.lemmas.List.{replicate_more}
+use Rattle.std.proofs.lemmas.List.FromFn.{map-range_with_len_more}
 use Rattle.numbers.specs.Sum.{sum_below}
 use Rattle.numbers.specs.Lists.{list_below, element}
 use Rattle.numbers.proofs.Sums.{sum_same}
@@ -86,3 +90,17 @@ module _ {A : Type 0} (P : A → Type 0) (d : A) where
   each_stored (y ∷ l) zero x new old (suc k) = old (suc k)
   each_stored (y ∷ l) (suc i) x new old zero = old zero
   each_stored (y ∷ l) (suc i) x new old (suc k) = each_stored l i x new (λ j. old (suc j)) k
+
+-- list_below makes what the library makes of a function
+pub list_below-is : {A : Type 0} (n : ℕ) (f : ℕ → A) → list_below n f ≡ map f (range_with_len 0 n)
+unfolding list_below
+list_below-is zero f = refl
+list_below-is (suc n) f =
+    rw (list_below-is n f)
+    (sym (map-range_with_len_more f 0 n n (omega arith)) ∙ ap (λ (m : ℕ). map f (range_with_len 0 m)) (add-one n))
+
+-- and so does a list that is filled with one value
+pub list_below-replicate : {A : Type 0} (n : ℕ) (x : A) → replicate n x ≡ list_below n (λ k. x)
+unfolding list_below
+list_below-replicate zero x = refl
+list_below-replicate (suc n) x = ap (λ (m : ℕ). replicate m x) (sym (add-one n)) ∙ sym (replicate_more n x) ∙ rw (list_below-replicate n x)

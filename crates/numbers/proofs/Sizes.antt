@@ -1,8 +1,7 @@
 -- Laws of the sizes of signed amounts, of differences and of sums.
-use Rattle.std.proofs.Common.{◌≡◌, refl, cond, ◌&&◌, ℕ, zero, suc, ◌+◌, ◌≤◌, ◌<◌, max, zero-le, le_refl, arith, ℤ, pos, negsuc, nat_abs, neg_ℤ, ◌+ℤ◌}
+use Rattle.std.proofs.Common.{◌≡◌, refl, cond, ◌&&◌, ℕ, zero, suc, ◌+◌, ◌≤◌, max, zero-le, le_refl, arith, ℤ, pos, negsuc, nat_abs, neg_ℤ, ◌+ℤ◌}
 use Rattle.std.proofs.Common.{◌-ℤ◌, leb, le-leb}
 use lib.IntN.{sub_ℕ}
-use borrow.Author.Tests.{lt-leb}
 use Rattle.numbers.specs.Sum.{sum_below}
 use Rattle.numbers.specs.Signed.{above, below, sum_below_ℤ}
 use Rattle.numbers.specs.Split.{split, with_sign, split_signed}
@@ -36,16 +35,9 @@ negated_size (negsuc n) = refl
 pub less_size : (a b : ℤ) → nat_abs (a -ℤ b) ≤ nat_abs a + nat_abs b
 less_size a b = omega (arith, add_size a (neg_ℤ b), negated_size b)
 
--- what is answered of two amounts that are held to a bound: z where both are within it, 0 where one is past it
-module _ (most : ℕ) (x y z : ℤ) where
-  pub both_within : nat_abs x ≤ most → nat_abs y ≤ most → z ≡ cond (leb (nat_abs x) most && leb (nat_abs y) most) z (pos 0)
-  both_within h k = simp (le-leb (nat_abs x) most h, le-leb (nat_abs y) most k)
-
-  pub first_past : most < nat_abs x → pos 0 ≡ cond (leb (nat_abs x) most && leb (nat_abs y) most) z (pos 0)
-  first_past h = simp (lt-leb (nat_abs x) most h)
-
-  pub second_past : nat_abs x ≤ most → most < nat_abs y → pos 0 ≡ cond (leb (nat_abs x) most && leb (nat_abs y) most) z (pos 0)
-  second_past h k = simp (le-leb (nat_abs x) most h, lt-leb (nat_abs y) most k)
+-- what is answered of two amounts within a bound
+pub both_within : (most : ℕ) (x y z : ℤ) → nat_abs x ≤ most → nat_abs y ≤ most → z ≡ cond (leb (nat_abs x) most && leb (nat_abs y) most) z (pos 0)
+both_within most x y z h k = simp (le-leb (nat_abs x) most h, le-leb (nat_abs y) most k)
 
 pub sum_size : (n : ℕ) (f : ℕ → ℤ) → nat_abs (sum_below_ℤ n f) ≤ sum_below n (λ k. nat_abs (f k))
 unfolding sum_below sum_below_ℤ

@@ -74,9 +74,6 @@ module _ {x y a b : ℕ} (p : x ≡ a) (q : y ≡ b) where
   pub not_at_most_of : y < x → leb a b ≡ false
   not_at_most_of h = rw (sym p, sym q) (lt-leb x y h)
 
-  pub not_equal_of : (x ≡ y → ⊥) → eqb a b ≡ false
-  not_equal_of ne = rw (sym p, sym q) (ne_eqb x y ne)
-
 -- a test of equal numbers, either way round
 pub flipped : (m n : ℕ) → eqb m n ≡ eqb n m
 flipped m n = go (eqb m n) refl

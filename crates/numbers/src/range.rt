@@ -3,11 +3,9 @@ ghost use Rattle.std.specs.Prelude.{◌≡◌};
 ghost use Rattle.numbers.specs.Range.{within};
 
 // Whether x is one of first to last.
+#[tactic(auto, unfolding(crate::specs::Range::within))]
 pub fn within(first: u64, last: u64, x: u64) -> bool
     ensures { result ≡ within first last x }
 {
-    if x < first {
-        return false;
-    }
-    x <= last
+    first <= x && x <= last
 }

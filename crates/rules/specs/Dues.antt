@@ -1,11 +1,12 @@
 -- Section 10 over the facts: from commitments and hours to a party's due in an area. 01, From a set to its shortfall and
 -- Area money. Numbers count from 0, as in Facts.
-use Rattle.std.specs.Prelude.{Bool, cond, ℕ, ◌+◌, ℤ, pos, eqb}
+use Rattle.std.specs.Prelude.{Bool, cond, List, Result, Ok, Err, ℕ, ◌+◌, ℤ, pos, eqb}
 use Rattle.numbers.specs.Lists.{list_below}
 use Rattle.calendar.specs.DeliveryYear.{delivery_days}
 use Rattle.capacity.specs.Shortfall.{watt_days, part_of}
 use Rattle.capacity.specs.Shares.{unit_share, net}
-use Rattle.money.specs.declared.area.AreaMoney.{AreaMoney}
+use Rattle.money.specs.declared.Cents.{Cents}
+use Rattle.money.specs.declared.area.Undistributed.{Undistributed}
 use Rattle.money.specs.Quantities.{cents}
 use Rattle.money.specs.AreaMoney.{due, is_undistributed}
 use Rattle.records.specs.declared.format.CommitmentRecord.{CommitmentRecord}
@@ -42,6 +43,10 @@ module _ (F : Facts) where
   unfoldable pub undistributed_in : ℕ → Bool
   undistributed_in a = is_undistributed (net_in a) (F.area a).price days (F.obligation a)
 
-  -- what area a comes to: whether refusal 11 fits, and the sixteen dues
-  abbrev pub settled_in : ℕ → AreaMoney
-  settled_in a = record { undistributed = undistributed_in a; dues = list_below party_count (λ p. cents (due_in a p)) }
+  -- the sixteen dues of area a
+  abbrev pub dues_in : ℕ → List Cents
+  dues_in a = list_below party_count (λ p. cents (due_in a p))
+
+  -- what area a comes to: the sixteen dues; where refusal 11 fits, they stand in the error
+  abbrev pub settled_in : ℕ → Result (List Cents) Undistributed
+  settled_in a = cond (undistributed_in a) (Err (record { dues = dues_in a })) (Ok (dues_in a))

@@ -1,30 +1,31 @@
-use Rattle.std.proofs.Common.{sym, ap, ◌∙◌, refl}
-use Rattle.money.specs.declared.area.AreaMoney.{AreaMoney}
+use Rattle.std.proofs.Common.{refl, ◌∙◌}
+use Rattle.book.specs.Books.{facts_of_book}
 use Rattle.book.specs.Seen.{seen}
 use Rattle.book.specs.Steps.{post_answer}
-use Rattle.book.proofs.AreaMoney.{due_most_lem, lines_posted, posted_after_lem}
+use Rattle.book.proofs.AreaMoney.{due_most_lem, distributed, left_over, lines_posted, posted_after_lem}
 use Rattle.book.proofs.Soundness.{with_posted_sound}
 use Rattle.book.proofs.Book.post.Goals as goal
 
-pub returns-then-money : goal.returns-then-money
+pub returns-in-Err : goal.returns-in-Err
 unfolding post_answer
-returns-then-money c = rw (sym (ap (λ (m : AreaMoney). m.undistributed) c.area_settled-money.ensures) ∙ c.if-money.true)
+returns-in-Err c = rw (left_over (facts_of_book c.args.self.now) c.args.area c.in-Err.ensures)
 
-pub returns : goal.returns
+pub returns-in-Ok : goal.returns-in-Ok
 unfolding post_answer
-returns c =
+returns-in-Ok c =
     let b = seen c.self.inside in
-    let settled = rw (← c.self.view_is) at c.area_settled-money.ensures in
-    let dues = ap (λ (m : AreaMoney). m.dues) settled in
+    let a = c.args.area in
+    let settled = distributed (facts_of_book b) a (rw (← c.self.view_is) at c.in-Ok.ensures) in
     rw (
       ← c.self.view_is,
-      sym (ap (λ (m : AreaMoney). m.undistributed) settled) ∙ c.if-money.false,
-      c.lines-lines.ensures ∙ lines_posted b c.self.invariant c.args.area c.requires dues refl,
-      posted_after_lem b c.args.area dues,
+      settled.0,
+      c.lines-lines.ensures ∙ lines_posted b c.self.invariant a c.requires settled.1 refl,
+      posted_after_lem b a settled.1,
     )
 
 pub invariant_of-self : goal.invariant_of-self
 invariant_of-self c =
     let b = seen c.self.inside in
-    let dues = ap (λ (m : AreaMoney). m.dues) (rw (← c.self.view_is) at c.area_settled-money.ensures) in
-    rw (posted_after_lem b c.args.area dues) (with_posted_sound b c.self.invariant (due_most_lem b c.self.invariant) c.args.area)
+    let a = c.args.area in
+    let settled = distributed (facts_of_book b) a (rw (← c.self.view_is) at c.in-Ok.ensures) in
+    rw (posted_after_lem b a settled.1) (with_posted_sound b c.self.invariant (due_most_lem b c.self.invariant) a)

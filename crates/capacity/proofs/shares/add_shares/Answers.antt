@@ -1,14 +1,10 @@
-use Rattle.std.proofs.Common.{refl, arith}
-use Rattle.numbers.proofs.Lists.{filled_none, filled_more, filled_all}
+use Rattle.std.proofs.Common.{◌≡◌, rules}
+use Rattle.numbers.proofs.Arrays.{from_fn-is}
 use Rattle.capacity.specs.Shares.{nets_answer}
 use Rattle.capacity.proofs.shares.add_shares.Goals as goal
 
-pub loop-p-init : goal.loop-p-init
-loop-p-init c = filled_none refl
-
-pub loop-p-preserved : goal.loop-p-preserved
-loop-p-preserved c = filled_more c.loop-p.invariant (omega arith) c.net_with.ensures
-
 pub returns : goal.returns
 unfolding nets_answer
-returns c = filled_all c.loop-p.invariant (omega arith)
+returns c =
+    from_fn-is (λ f. (f.0.now ≡ c.args.nets) × (f.1.now ≡ c.args.shares)) _
+    (λ f p y q b captured called. search rules) (search rules) c.from_fn.ensures.items

@@ -1,9 +1,7 @@
-use Rattle.std.proofs.Common.{refl, arith}
-use Rattle.numbers.proofs.Lists.{filled_none, filled_more}
+use Rattle.std.proofs.Common.{rules, pos}
+use Rattle.numbers.proofs.Arrays.{map-is}
+use Rattle.money.specs.Quantities.{cents}
 use Rattle.money.proofs.area.amounts.Goals as goal
 
-pub loop-p-init : goal.loop-p-init
-loop-p-init c = filled_none refl
-
-pub loop-p-preserved : goal.loop-p-preserved
-loop-p-preserved c = filled_more c.loop-p.invariant (omega arith) c.cents_above.ensures.0
+pub returns : goal.returns
+returns c = map-is (λ f. Unit {0}) c.args.money (cents (pos 0)) _ (λ f p y q b captured called. search rules) tt c.map.ensures.items

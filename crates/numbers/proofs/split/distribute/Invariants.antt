@@ -1,4 +1,4 @@
-use Rattle.std.proofs.Common.{◌≡◌, ◌-◌, length}
+use Rattle.std.proofs.Common.{◌≡◌, length}
 use Rattle.numbers.specs.Sum.{sum_below}
 use Rattle.numbers.specs.Lists.{element}
 use Rattle.numbers.specs.Split.{first_shares, split}
@@ -10,6 +10,3 @@ invariant-loop-k l =
     Filled (length l.initial.shares) (split l.amount (length l.weights) (element l.weights)) l.shares l.k
     × (l.sum ≡ sum_below l.k (element l.weights))
     × (l.given ≡ first_shares l.amount (length l.weights) (element l.weights) l.k)
-
-abbrev pub decreases-loop-k : goal.decreases-loop-k
-decreases-loop-k l = length l.initial.shares - l.k
