@@ -153,9 +153,9 @@ impl<const SIZE: usize> Report<SIZE> {
                         stop: Stop::Broken,
                     };
                 }
-                Next::Whole(size) => {
-                    self.try_record(&rest[..size]);
-                    at += size;
+                Next::Whole(length) => {
+                    self.try_record(&rest[..length]);
+                    at += length;
                 }
             }
         }
