@@ -19,7 +19,7 @@ use std::marker::Model;
 pub struct Unit {
     entry: UnitRecord,
     hours: HourCounts,
-    // The index of the last accepted hour; 0 where there is none.
+    // The index of the last accepted hour; 0 where there is none, as hours are counted from 1.
     last: u64,
 }
 

@@ -12,7 +12,7 @@ const COMMITMENT_MOST: u64 = 5_000_000;
 
 const LAST_DAY: u64 = 365;
 
-// A commitment's watt-days; 0 where it is out of range.
+// A commitment's watt-days; 0 where it is out of range, and no Option: none that was accepted is.
 #[tactic(auto, unfolding(crate::specs::Shortfall::watt_days, crate::specs::Shortfall::watt_days_answer))]
 pub fn watt_days(watts: u64, first: u64, last: u64) -> u64
     ensures { result ≡ watt_days_answer watts first last }
@@ -123,7 +123,7 @@ impl CommittedUnit {
 }
 
 // A unit's limited shortfall, from its rating, its hours, its V watt-days and the days of the delivery year; 0 where these are
-// out of range.
+// out of range, and no Option: those of a book never are.
 #[tactic(auto, unfolding(crate::specs::Shortfall::shortfall_answer))]
 pub fn limited_shortfall(rating: Rating, hours: HourCounts, v: u64, days: u64) -> UnforcedWatts
     ensures { result ≡ unforced_watts (shortfall_answer rating hours v days) }

@@ -133,7 +133,7 @@ impl Area {
         array::from_fn(|p| self.priced(self.nets[p].above()))
     }
 
-    // M of each party.
+    // M of each party. With C it shares a function of the watts, and a parameter for the side of zero would be no plainer.
     fn ceilings(self) -> [Cents; 16]
         ensures { result ≡ money (ceiling (watts_of self.nets) self.price self.days) }
     {

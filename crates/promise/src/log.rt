@@ -62,7 +62,8 @@ fn put_lines(lines: &mut [i64], at: usize, amounts: [Cents; Book::PARTIES]) -> u
 }
 
 // The run that the promise speaks of. The strings stand end to end in bytes, and ends says where each of them ends. Their
-// numbers, and their lines, sixteen for each string, are stored as far as there is room; the answer is the book after them.
+// numbers, and their lines, sixteen for each string, are stored as far as there is room; the answer is the book after them. Lent
+// slices of numbers, and no list of strings or of answers, since there is no heap to keep one in.
 pub fn run(bytes: &[u8], ends: &[usize], numbers: &mut [u32], lines: &mut [i64]) -> Book
     ensures value { (result ≡ book_after empty_book (strings bytes.now ends.now)) × Sound result }
     ensures numbers_after { numbers.new ≡ stored numbers.old (all_numbers (from_empty (strings bytes.now ends.now))) }

@@ -51,70 +51,6 @@ fn is_broken(s: &[u8]) -> bool
     s.len() < HEAD_BYTES || LENGTH_MOST < pair(s, 1) || s.len() != HEAD_BYTES + pair(s, 1) as usize
 }
 
-// Row 3.
-fn has_length(s: &[u8], bytes: usize) -> Result<(), Fault>
-    ensures { MatchResult result (λ ok. length s.now ≡ bytes) (λ fault. (length s.now ≢ bytes) × (fault ≡ WrongLength)) }
-{
-    if s.len() == bytes {
-        Ok(())
-    } else {
-        Err(Fault::WrongLength)
-    }
-}
-
-// A framed string of each kind: the record, if the length is that kind's.
-fn year(s: &[u8]) -> Result<Record, Fault>
-    requires { is_broken s.now ≡ false }
-    ensures { result ≡ of_length year_format s.now (λ l. Year (element l 0)) }
-{
-    has_length(s, YEAR_BYTES)?;
-    Ok(Record::Year(pair(s, 3)))
-}
-
-fn area(s: &[u8]) -> Result<Record, Fault>
-    requires { is_broken s.now ≡ false }
-    ensures { result ≡ of_length area_format s.now (λ l. Area (area_from l)) }
-{
-    has_length(s, AREA_BYTES)?;
-    Ok(Record::Area(AreaRecord {
-        area: byte(s, 3),
-        price: quad(s, 4),
-    }))
-}
-
-fn unit(s: &[u8]) -> Result<Record, Fault>
-    requires { is_broken s.now ≡ false }
-    ensures { result ≡ of_length unit_format s.now (λ l. Unit (unit_from l)) }
-{
-    has_length(s, UNIT_BYTES)?;
-    Ok(Record::Unit(UnitRecord {
-        unit: byte(s, 3),
-        area: byte(s, 4),
-        rating: Rating {
-            installed: InstalledWatts::new(quad(s, 5) as u64),
-            eford: quad(s, 9),
-            eford5: quad(s, 13),
-            efordyear: quad(s, 17),
-            class: byte(s, 21),
-        },
-    }))
-}
-
-fn commitment(s: &[u8]) -> Result<Record, Fault>
-    requires { is_broken s.now ≡ false }
-    ensures { result ≡ of_length commitment_format s.now (λ l. Commitment (commitment_from l)) }
-{
-    has_length(s, COMMITMENT_BYTES)?;
-    Ok(Record::Commitment(CommitmentRecord {
-        number: byte(s, 3),
-        unit: byte(s, 4),
-        party: byte(s, 5),
-        first: pair(s, 6),
-        last: pair(s, 8),
-        watts: quad(s, 10),
-    }))
-}
-
 fn hour_fields(s: &[u8]) -> HourRecord
     requires { bytes_of hour_format ≤ length s.now }
     ensures { result ≡ hour_from (values_of hour_format s.now) }
@@ -129,47 +65,115 @@ fn hour_fields(s: &[u8]) -> HourRecord
     }
 }
 
-fn hour(s: &[u8]) -> Result<Record, Fault>
-    requires { is_broken s.now ≡ false }
-    ensures { result ≡ of_length hour_format s.now (λ l. Hour (hour_from l)) }
-{
-    has_length(s, HOUR_BYTES)?;
-    Ok(Record::Hour(hour_fields(s)))
+// A string of bytes that row 1 does not fit.
+#[derive(Clone, Copy)]
+struct Framed<'a> {
+    bytes: &'a [u8],
+    ghost whole: { is_broken bytes.now ≡ false },
 }
 
-fn load(s: &[u8]) -> Result<Record, Fault>
-    requires { is_broken s.now ≡ false }
-    ensures { result ≡ of_length load_format s.now (λ l. Load (load_from l)) }
-{
-    has_length(s, LOAD_BYTES)?;
-    Ok(Record::Load(LoadRecord {
-        area: byte(s, 3),
-        party: byte(s, 4),
-        obligation: quad(s, 5),
-    }))
-}
+impl<'a> Framed<'a> {
+    // Row 3.
+    fn has_length(self, bytes: usize) -> Result<(), Fault>
+        ensures { MatchResult result (λ ok. length self.entry.bytes.now ≡ bytes) (λ fault. (length self.entry.bytes.now ≢ bytes) × (fault ≡ WrongLength)) }
+    {
+        if self.bytes.len() == bytes {
+            Ok(())
+        } else {
+            Err(Fault::WrongLength)
+        }
+    }
 
-fn post(s: &[u8]) -> Result<Record, Fault>
-    requires { is_broken s.now ≡ false }
-    ensures { result ≡ of_length post_format s.now (λ l. Post (element l 0)) }
-{
-    has_length(s, POST_BYTES)?;
-    Ok(Record::Post(byte(s, 3)))
-}
+    // Of each kind: the record, if the length is that kind's.
+    fn year(self) -> Result<Record, Fault>
+        ensures { result ≡ of_length year_format self.entry.bytes.now (λ l. Year (element l 0)) }
+    {
+        self.has_length(YEAR_BYTES)?;
+        Ok(Record::Year(pair(self.bytes, 3)))
+    }
 
-fn framed(s: &[u8]) -> Result<Record, Fault>
-    requires { is_broken s.now ≡ false }
-    ensures { result ≡ framed s.now }
-{
-    match byte(s, 0) {
-        1 => year(s),
-        2 => area(s),
-        3 => unit(s),
-        4 => commitment(s),
-        5 => hour(s),
-        6 => load(s),
-        7 => post(s),
-        _ => Err(Fault::UnknownTag),
+    fn area(self) -> Result<Record, Fault>
+        ensures { result ≡ of_length area_format self.entry.bytes.now (λ l. Area (area_from l)) }
+    {
+        self.has_length(AREA_BYTES)?;
+        Ok(Record::Area(AreaRecord {
+            area: byte(self.bytes, 3),
+            price: quad(self.bytes, 4),
+        }))
+    }
+
+    fn unit(self) -> Result<Record, Fault>
+        ensures { result ≡ of_length unit_format self.entry.bytes.now (λ l. Unit (unit_from l)) }
+    {
+        self.has_length(UNIT_BYTES)?;
+        let s = self.bytes;
+        Ok(Record::Unit(UnitRecord {
+            unit: byte(s, 3),
+            area: byte(s, 4),
+            rating: Rating {
+                installed: InstalledWatts::new(u64::from(quad(s, 5))),
+                eford: quad(s, 9),
+                eford5: quad(s, 13),
+                efordyear: quad(s, 17),
+                class: byte(s, 21),
+            },
+        }))
+    }
+
+    fn commitment(self) -> Result<Record, Fault>
+        ensures { result ≡ of_length commitment_format self.entry.bytes.now (λ l. Commitment (commitment_from l)) }
+    {
+        self.has_length(COMMITMENT_BYTES)?;
+        let s = self.bytes;
+        Ok(Record::Commitment(CommitmentRecord {
+            number: byte(s, 3),
+            unit: byte(s, 4),
+            party: byte(s, 5),
+            first: pair(s, 6),
+            last: pair(s, 8),
+            watts: quad(s, 10),
+        }))
+    }
+
+    fn hour(self) -> Result<Record, Fault>
+        ensures { result ≡ of_length hour_format self.entry.bytes.now (λ l. Hour (hour_from l)) }
+    {
+        self.has_length(HOUR_BYTES)?;
+        Ok(Record::Hour(hour_fields(self.bytes)))
+    }
+
+    fn load(self) -> Result<Record, Fault>
+        ensures { result ≡ of_length load_format self.entry.bytes.now (λ l. Load (load_from l)) }
+    {
+        self.has_length(LOAD_BYTES)?;
+        let s = self.bytes;
+        Ok(Record::Load(LoadRecord {
+            area: byte(s, 3),
+            party: byte(s, 4),
+            obligation: quad(s, 5),
+        }))
+    }
+
+    fn post(self) -> Result<Record, Fault>
+        ensures { result ≡ of_length post_format self.entry.bytes.now (λ l. Post (element l 0)) }
+    {
+        self.has_length(POST_BYTES)?;
+        Ok(Record::Post(byte(self.bytes, 3)))
+    }
+
+    fn record(self) -> Result<Record, Fault>
+        ensures { result ≡ framed self.entry.bytes.now }
+    {
+        match byte(self.bytes, 0) {
+            1 => self.year(),
+            2 => self.area(),
+            3 => self.unit(),
+            4 => self.commitment(),
+            5 => self.hour(),
+            6 => self.load(),
+            7 => self.post(),
+            _ => Err(Fault::UnknownTag),
+        }
     }
 }
 
@@ -180,7 +184,7 @@ pub fn decode(s: &[u8]) -> Result<Record, Fault>
     if is_broken(s) {
         return Err(Fault::Broken);
     }
-    framed(s)
+    Framed { bytes: s }.record()
 }
 
 // The tag of an Hour, and the length that it states.

@@ -48,6 +48,7 @@ pub struct HourRecord {
     pub day: u32,
     // Hour ending.
     pub hour: u32,
+    // A number, since a record states any byte: to refuse another than 0 to 5 is the task of row 6.
     pub kind: u32,
     // In watts.
     pub derating: u32,

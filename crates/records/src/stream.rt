@@ -6,6 +6,7 @@ ghost use Rattle.records.specs.Stream.{next_record};
 
 use crate::decode::{HEAD_BYTES, LENGTH_MOST, pair};
 
+// Three outcomes by name, which an Option in a Result would not say plainer.
 #[derive(Clone, Copy)]
 pub enum Next {
     // A whole record: where it ends.

@@ -39,7 +39,7 @@ pub struct Unfinished;
 // What stays free for one more answer and the last line.
 const ROOM: usize = LINES_MOST + PAIR_MOST;
 
-// The area of a Post.
+// The area of a Post; 0, and no Option, for other records, as they have no lines to print it in.
 fn post_area(bytes: &[u8]) -> u32
     ensures { result ≡ post_area bytes.now }
 {

@@ -17,7 +17,7 @@ pub const COMMITMENTS: usize = 64;
 
 pub const PARTIES: usize = 16;
 
-// The index of a number of 1 to MOST; 0 where it is out of range.
+// The index of a number of 1 to MOST; 0 where it is out of range, and no Option: row 6 refuses such a record before a row asks.
 pub fn index<const MOST: usize>(number: u32) -> usize
     ensures value { result ≡ index MOST number }
     ensures below { 0 < MOST → result < MOST }

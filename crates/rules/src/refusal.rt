@@ -40,7 +40,8 @@ impl Refusal {
     }
 }
 
-// What the rows ask, of the area and the unit that a record names.
+// What the rows ask, of the area and the unit that a record names. Flags with values beside them, and no Option: a row that asks
+// a value comes after the one that asks the flag, and the book holds zeros till then.
 #[derive(Clone, Copy)]
 pub struct Asked {
     // 0 before a year is entered.
