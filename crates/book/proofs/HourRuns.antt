@@ -23,23 +23,15 @@ unfolding index within
 no_area_lem = refl
 
 -- the Hour that a string is, if it is one
-module _ (s : List ℕ) where
-  pub no_hour : None ≡ hour_of s → (b : Book) → is_accepted_hour b s ≡ false
-  no_hour e b = go (is_of hour_format (decoded s)) refl
-    where
-      go : (t : Bool) → is_of hour_format (decoded s) ≡ t → is_accepted_hour b s ≡ false
-      go true q = let none : None ≡ Some (hour_from (numbers_of (decoded s))) = rw q at e in cc
-      go false q = rw q
-
-  pub hour_is : {h : HourRecord} → Some h ≡ hour_of s → Ok (Hour h) ≡ decoded s
-  hour_is {h} e = go (is_of hour_format (decoded s)) refl
-    where
-      go : (t : Bool) → is_of hour_format (decoded s) ≡ t → Ok (Hour h) ≡ decoded s
-      go true q =
-          let some : Some h ≡ Some (hour_from (numbers_of (decoded s))) = rw q at e in
-          let is : h ≡ hour_from (numbers_of (decoded s)) = cc in
-          ap (λ (x : HourRecord). Ok (Hour x)) is ∙ sym (is_made hour_format (decoded s) tt q)
-      go false q = let some : Some h ≡ None = rw q at e in cc
+pub hour_is : (s : List ℕ) {h : HourRecord} → Some h ≡ hour_of s → Ok (Hour h) ≡ decoded s
+hour_is s {h} e = go (is_of hour_format (decoded s)) refl
+  where
+    go : (t : Bool) → is_of hour_format (decoded s) ≡ t → Ok (Hour h) ≡ decoded s
+    go true q =
+        let some : Some h ≡ Some (hour_from (numbers_of (decoded s))) = rw q at e in
+        let is : h ≡ hour_from (numbers_of (decoded s)) = cc in
+        ap (λ (x : HourRecord). Ok (Hour x)) is ∙ sym (is_made hour_format (decoded s) tt q)
+    go false q = let some : Some h ≡ None = rw q at e in cc
 
 -- it is accepted, where its number is 0
 pub hour_taken : (b : Book) (s : List ℕ) {h : HourRecord} {b' : Book} → Ok (Hour h) ≡ decoded s → answer 0 no_lines b' ≡ entered b s → true ≡ is_accepted_hour b s

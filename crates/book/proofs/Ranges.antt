@@ -4,25 +4,13 @@ use Rattle.std.proofs.Common.{set, eq-eqb, ne_eqb, le-leb}
 use Rattle.numbers.specs.Range.{within}
 use Rattle.numbers.specs.Lists.{element}
 use Rattle.numbers.proofs.Lists.{stored_at}
-use Rattle.capacity.specs.Shortfall.{installed_most, commitment_most, hours_most, watt_days, watt_days_answer}
+use Rattle.capacity.specs.Shortfall.{commitment_most, watt_days, watt_days_answer}
 use Rattle.records.specs.declared.format.CommitmentRecord.{CommitmentRecord}
 use Rattle.records.specs.Format.{party_count}
 use Rattle.rules.specs.Rules.{party_index}
 use Rattle.rules.proofs.Named.{named_by, named_index}
-use Rattle.book.specs.declared.Unit.{Unit}
-use Rattle.book.specs.Books.{SoundUnit, SoundCommitment}
+use Rattle.book.specs.Books.{SoundCommitment}
 use Rattle.book.specs.Steps.{part_most, commitment_part}
-
--- D is below 2^36 however the hours fell
-pub derated_most : {u : Unit} → SoundUnit u → u.hours.derated ≤ 43920000000
-derated_most {u} h =
-    omega (
-      arith,
-      h.derated_most,
-      h.hours_counted,
-      h.last_most,
-      mul-le-mul {n₁ = u.hours.service} {m₁ = u.entry.rating.installed.0} {n₂ = hours_most} {m₂ = installed_most} (omega (arith, h.hours_counted, h.last_most)) h.rating.installed_bound,
-    )
 
 -- a commitment's watt-days are at most 5,000,000 × 366, and what `watt_days` answers
 pub watt_days_most_lem : {c : CommitmentRecord} → SoundCommitment c → watt_days c.watts c.first c.last ≤ part_most

@@ -125,19 +125,6 @@ pub record Going (bytes ends first_numbers : List ℕ) (first_lines : List ℤ) 
   pub lines_left : stored_from next lines (all_lines (run b (strings_from from bytes (drop i ends))))
       ≡ stored_from 0 first_lines (all_lines (from_empty (strings bytes ends)))
 
-module _ (bytes ends numbers : List ℕ) (lines : List ℤ) where
-  pub going_first : {b : Book} → b ≡ empty_book → Going bytes ends numbers lines numbers lines b 0 0 0
-  going_first e =
-      record {
-        there = omega arith;
-        room = omega arith;
-        numbers_length = refl;
-        lines_length = refl;
-        book_left = rw e;
-        numbers_left = rw e;
-        lines_left = rw e;
-      }
-
 module _ {bytes ends first_numbers numbers : List ℕ} {first_lines lines : List ℤ} {b : Book} {from next i : ℕ}
     (g : Going bytes ends first_numbers first_lines numbers lines b from next i) where
   pub going_more : {end : ℕ} {s : List ℕ} {a : Answer} → i < length ends → end ≡ get_or ends i 0 → s ≡ take (end - from) (drop from bytes)
