@@ -44,6 +44,7 @@ impl Unit {
     }
 
     // With one accepted hour more.
+    #[inline(always)]
     pub(crate) fn with_hour(self, year: u32, h: HourRecord) -> Self
         requires { SoundUnit self }
         ensures { result ≡ with_hour year self h }

@@ -75,7 +75,8 @@ fn year_in_range(v: u64, days: u64) -> bool
     v <= WATT_DAYS_MOST && within(365, 366, days)
 }
 
-// Whether a unit's rating and hours, its watt-days and the days of the year are in range.
+// Whether a unit's rating and hours, its watt-days and the days of the year are in range. Four arguments here and in the public
+// functions, as the definitions take them; what is in range is one value, `CommittedUnit`.
 pub(crate) fn in_range(rating: Rating, hours: HourCounts, v: u64, days: u64) -> bool
     ensures { result ≡ (unit_in_range rating hours && year_in_range v days) }
 {

@@ -78,7 +78,8 @@ impl<const IN: usize, const OUT: usize> Ledger<IN, OUT> {
         Ok(ControlFlow::Break(()))
     }
 
-    // Tries the records that are there, and prints or reads where there is need. No turn follows the last line.
+    // Tries the records that are there, and prints or reads where there is need. No turn follows the last line. Input and output are
+    // the caller's, and lent to each turn; the three stops have names, and there is no fourth.
     fn take_turn<R: Read, W: Write>(
         &mut self,
         input: &mut R,

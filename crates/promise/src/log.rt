@@ -37,6 +37,7 @@ fn amounts(answer: Result<[Cents; Book::PARTIES], Refusal>) -> [Cents; Book::PAR
     }
 }
 
+// An index test: where `get_mut` gives nothing, no clause says that the slice stays as it was.
 fn put_number(numbers: &mut [u32], i: usize, number: u32)
     ensures { numbers.new ≡ set numbers.old i number }
 {

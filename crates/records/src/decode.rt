@@ -17,7 +17,7 @@ use crate::format::{
 use capacity::InstalledWatts;
 use capacity::rating::Rating;
 
-// The number in the byte, the two bytes or the four bytes from a place on.
+// The number in the byte, the two bytes or the four bytes from a place on: three functions, as the library has one a width.
 fn byte(s: &[u8], from: usize) -> u32
     requires { from < length s.now }
     ensures { (result ≡ number_at 1 s.now from) × (result < 256) }

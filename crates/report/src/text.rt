@@ -11,7 +11,8 @@ use book::Book;
 use itoa::{Buffer, Integer};
 use money::Cents;
 
-// The most bytes of each text, from those of its parts; specs/Printed.antt says what the parts are.
+// What a text asks is room for the most bytes that it can have, and a type for room would be longer than the clause. The most bytes
+// of each, from those of its parts; specs/Printed.antt says what the parts are.
 const DIGITS_MOST: usize = 20;
 
 const FIELD_MOST: usize = 1 + DIGITS_MOST;
@@ -68,6 +69,7 @@ fn put_pair<const SIZE: usize>(out: &mut ArrayVec<u8, SIZE>, letter: &[u8; 1], n
     put(out, b"\n");
 }
 
+// Two lines of a kind: a letter as a parameter would be no plainer where they are called.
 pub(crate) fn put_refusal<const SIZE: usize>(out: &mut ArrayVec<u8, SIZE>, n: u64, c: u32)
     requires { length out.old.items + pair_most ≤ SIZE }
     ensures put { out.new.items ≡ out.old.items ++ refused_line n c }

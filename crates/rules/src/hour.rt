@@ -52,7 +52,7 @@ pub(crate) fn is_derated(h: HourRecord) -> bool
     matches!(HourKind::try_from(h.kind), Ok(HourKind::Derated))
 }
 
-// Its date in a delivery year.
+// Its date in a delivery year, which stays an argument of its own: the book's, and none of the record's.
 pub(crate) fn date_of(year: u32, h: HourRecord) -> DeliveryDate
     ensures year { result.year ≡ year }
     ensures month { result.month ≡ h.month }
@@ -65,7 +65,8 @@ pub(crate) fn date_of(year: u32, h: HourRecord) -> DeliveryDate
     }
 }
 
-// Its index in a delivery year, by day and then hour ending.
+// Its index in a delivery year, by day and then hour ending. Inlined, it is worked out once for the rows and for the unit.
+#[inline(always)]
 pub fn hour_index(year: u32, h: HourRecord) -> u64
     ensures { result ≡ hour_index year h }
 {
