@@ -44,7 +44,7 @@ units_after b r =
     (λ u. set b.units (unit_index u.unit) (new_unit u))
     r
 
--- the book after an accepted record, field by field; rows 1 to 3 accept nothing that is Unframed
+-- the book after an accepted record, field by field; rows 1 to 3 accept no fault
 abbrev pub after : Book → Decoded → Book
 after b r = record {
   year = of_year b.year (λ y. y) r;

@@ -19,12 +19,12 @@ use std::marker::Model;
 pub struct Unit {
     entry: UnitRecord,
     hours: HourCounts,
-    // The index of the last accepted hour; 0 where there is none, as hours are counted from 1.
+    // The index of the last accepted hour; 0 where there is none, and no Option: every hour is then later.
     last: u64,
 }
 
-// What has been entered, each at its number less 1. What is all zeros is not entered, as no record has the number 0: memory is
-// fixed, and the facts of a book are read so.
+// What has been entered, each at its number less 1. What is all zeros is not entered, as no record has the number 0. No Options:
+// the facts of the definitions have a value at every index, so that each read would put the zeros back.
 #[derive(Drop)]
 pub struct Book {
     // 0 before a year is entered.
@@ -108,7 +108,7 @@ impl Book {
         Ok([Cents::zero(); Book::PARTIES])
     }
 
-    // An Hour as `enter` takes it, and nothing else: whether it was accepted.
+    // An Hour as `enter` takes it, and nothing else: whether it was accepted. Beside `enter`, whose other kinds would slow a run.
     fn enter_hour(&mut self, bytes: &[u8]) -> bool
         ensures value { result ≡ is_accepted_hour self.old bytes.now }
         ensures book { self.new ≡ cond result (entered self.old bytes.now).book self.old }
@@ -127,7 +127,7 @@ impl Book {
     }
 
     // The Hour records at the start of a slice, entered one after another: up to the first record that is anything else or
-    // would be refused. Answers where that begins.
+    // would be refused. Answers where that begins, by a count: of a closure that changes the book nothing would be known.
     pub fn hours(&mut self, s: &[u8]) -> usize
         ensures { run result self.new ≡ hours_between self.old s.now 0 (length s.now) }
     {

@@ -35,7 +35,7 @@ fn parts(commitments: &[CommitmentRecord; Book::COMMITMENTS], u: usize) -> [u64;
     parts
 }
 
-// That an area's index is one is asked by three functions here; a type for it would be longer than the three clauses.
+// That a number is an area's index is asked by three functions here; a type for it would be longer than the three clauses.
 impl Book {
     // Each party's net in an area.
     fn area_nets(&self, area: usize) -> [UnforcedWatts; Book::PARTIES]

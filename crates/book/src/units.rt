@@ -9,14 +9,8 @@ use capacity::rating::{HourCounts, Rating};
 use records::format::{HourRecord, UnitRecord};
 use rules::hour::{hour_counts, hour_index};
 
-const NO_HOURS: HourCounts = HourCounts {
-    service: 0,
-    outage: 0,
-    derated: 0,
-};
-
 impl Unit {
-    // A unit that is not entered is all zeros: memory is fixed, and the facts are read so.
+    // A unit that is not entered is all zeros, as `Book` says.
     pub(crate) fn none() -> Self
         ensures { result ≡ no_entry }
     {
@@ -38,7 +32,7 @@ impl Unit {
     {
         Self {
             entry,
-            hours: NO_HOURS,
+            hours: HourCounts::default(),
             last: 0,
         }
     }

@@ -34,7 +34,7 @@ impl UnforcedWatts {
         UnforcedWatts(watts as i64)
     }
 
-    // a − b; 0 where either is past the greatest signed number.
+    // a − b; 0 where either is past the greatest signed number, as `signed::difference` says.
     pub(crate) fn difference(a: u64, b: u64) -> Self
         ensures { result ≡ unforced_watts (difference_answer a b) }
     {

@@ -18,8 +18,8 @@ pub struct Rating {
     pub class: u32,
 }
 
-// What a unit's accepted peak hours come to.
-#[derive(Clone, Copy)]
+// What a unit's accepted peak hours come to; by default none.
+#[derive(Clone, Copy, Default)]
 pub struct HourCounts {
     // SH, in service.
     pub service: u64,

@@ -37,6 +37,7 @@ impl InstalledWatts {
     }
 }
 
+// Of the class, a number as `Rating` has it.
 #[tactic(auto, unfolding(crate::specs::Shortfall::quarters))]
 fn quarters(class: u32) -> u64
     ensures { (result ≡ quarters class) × (result ≤ 4) }

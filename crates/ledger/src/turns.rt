@@ -72,7 +72,7 @@ impl<const IN: usize, const OUT: usize> Ledger<IN, OUT> {
             return Ok(ControlFlow::Continue(()));
         }
         let Ok(()) = self.report.finish(self.input.unread()) else {
-            return Err(Failure::TooLong);
+            unreachable!()
         };
         self.print(output)?;
         Ok(ControlFlow::Break(()))
@@ -97,7 +97,7 @@ impl<const IN: usize, const OUT: usize> Ledger<IN, OUT> {
             }
             Stop::Broken => {
                 let Ok(()) = self.report.close() else {
-                    return Err(Failure::TooLong);
+                    unreachable!()
                 };
                 self.print(output)?;
                 Ok(ControlFlow::Break(()))

@@ -32,7 +32,7 @@ impl Cents {
         requires { above self.0 * sum_below 16 (element weights) < 2 ^ 63 }
         ensures { result ≡ money (split (above self.0) 16 (element weights)) }
     {
-        split_array(self.above(), weights).map(Cents::new)
+        split_array(self.cents_above(), weights).map(Cents::new)
     }
 }
 
@@ -40,7 +40,7 @@ impl Cents {
 fn amounts(money: [Cents; 16]) -> [u64; 16]
     ensures { result ≡ list_below 16 (λ p. above (cents_of money p)) }
 {
-    money.map(Cents::above)
+    money.map(Cents::cents_above)
 }
 
 // The sum of what sixteen parties pay, or of what they may get.
@@ -55,7 +55,7 @@ fn credits(charged: Cents, ceiling: Cents, ceilings: [Cents; 16]) -> [Cents; 16]
     requires { above charged.0 * sum_below 16 (λ p. above (cents_of ceilings p)) < 2 ^ 63 }
     ensures { result ≡ cond (ltb (above charged.0) (above ceiling.0)) (money (split (above charged.0) 16 (λ p. above (cents_of ceilings p)))) ceilings }
 {
-    if charged.above() < ceiling.above() {
+    if charged.cents_above() < ceiling.cents_above() {
         charged.split(amounts(ceilings))
     } else {
         ceilings
@@ -66,25 +66,25 @@ fn credits(charged: Cents, ceiling: Cents, ceilings: [Cents; 16]) -> [Cents; 16]
 fn left_over(charged: Cents, ceiling: Cents) -> Cents
     ensures { result ≡ cents (pos (above charged.0 - above ceiling.0)) }
 {
-    Cents::new(charged.above().saturating_sub(ceiling.above()))
+    Cents::new(charged.cents_above().saturating_sub(ceiling.cents_above()))
 }
 
 // Refusal 11: money is left over and the obligations add up to 0.
 fn is_undistributed(left: Cents, obligations: [u64; 16]) -> bool
     ensures { result ≡ (ltb 0 (above left.0) && eqb (sum_below 16 (element obligations)) 0) }
 {
-    0 < left.above() && capped_sum(&obligations) == 0
+    0 < left.cents_above() && capped_sum(&obligations) == 0
 }
 
-// credit + load share − charge, of each party
+// credit + load share − charge, of each party. Three arrays, as the definitions have three functions of a party.
 fn dues(credits: [Cents; 16], load_shares: [Cents; 16], charges: [Cents; 16]) -> [Cents; 16]
     requires { sum_below 16 (λ p. above (cents_of credits p)) + sum_below 16 (λ p. above (cents_of load_shares p)) < 2 ^ 63 }
     ensures { result ≡ list_below 16 (λ p. cents (sub_ℕ (above (cents_of credits p) + above (cents_of load_shares p)) (above (cents_of charges p)))) }
 {
     array::from_fn(|p| {
         Cents::difference(
-            credits[p].above() + load_shares[p].above(),
-            charges[p].above(),
+            credits[p].cents_above() + load_shares[p].cents_above(),
+            charges[p].cents_above(),
         )
     })
 }
@@ -159,7 +159,7 @@ impl Area {
     }
 }
 
-// What an area comes to; out of range, nothing is left over and every due is 0.
+// What an area comes to; out of range, nothing is left over and every due is 0, and no Option: no area of a book is.
 #[tactic(auto, unfolding(crate::specs::AreaMoney::money_answer))]
 pub fn area_money(
     nets: [UnforcedWatts; 16],

@@ -10,15 +10,15 @@ use std::array;
 const DUE_MOST: u64 = 2_928_000_000;
 
 impl Cents {
-    // A due's line: the due less the earlier lines.
+    // A due's line: the due less the earlier lines; 0 where either is past the bound, and no Option: those of an area never are.
     #[tactic(auto, unfolding(crate::specs::Lines::line_answer))]
     fn line_after(self, earlier: Self) -> Self
         ensures { result ≡ cents (line_answer self.0 earlier.0) }
     {
-        if self.size() <= DUE_MOST && earlier.size() <= DUE_MOST {
+        if self.cents_size() <= DUE_MOST && earlier.cents_size() <= DUE_MOST {
             Cents::difference(
-                self.above() + earlier.below(),
-                self.below() + earlier.above(),
+                self.cents_above() + earlier.cents_below(),
+                self.cents_below() + earlier.cents_above(),
             )
         } else {
             Cents(0)

@@ -16,7 +16,8 @@ pub fn below(x: i64) -> u64
     x.min(0).unsigned_abs()
 }
 
-// a − b; 0 where either is past the greatest signed number, and no Option: those who ask are proved to stay below.
+// a − b; 0 where either is past the greatest signed number, and no Option: the quantities pass it on, and the functions over them
+// are proved to stay below.
 #[tactic(auto, unfolding(crate::specs::Signed::difference_answer))]
 pub fn difference(a: u64, b: u64) -> i64
     ensures { result ≡ difference_answer a b }

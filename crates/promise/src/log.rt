@@ -19,6 +19,7 @@ fn between(bytes: &[u8], from: usize, end: usize) -> &[u8]
     &bytes[first..last]
 }
 
+// 0 for what is no refusal, as the promise counts.
 fn number(answer: Result<[Cents; Book::PARTIES], Refusal>) -> u32
     ensures { result ≡ number_of answer }
 {
@@ -46,7 +47,7 @@ fn put_number(numbers: &mut [u32], i: usize, number: u32)
     }
 }
 
-// Answers the next place, which is never past the end.
+// Answers the next place, which is never past the end. It is counted, since the lines may end before the amounts do.
 fn put_lines(lines: &mut [i64], at: usize, amounts: [Cents; Book::PARTIES]) -> usize
     requires { at ≤ length lines.old }
     ensures lines_after { lines.new ≡ stored_from at lines.old (map (λ c. c.0) amounts) }
@@ -64,7 +65,7 @@ fn put_lines(lines: &mut [i64], at: usize, amounts: [Cents; Book::PARTIES]) -> u
 
 // The run that the promise speaks of. The strings stand end to end in bytes, and ends says where each of them ends. Their
 // numbers, and their lines, sixteen for each string, are stored as far as there is room; the answer is the book after them. Lent
-// slices of numbers, and no list of strings or of answers, since there is no heap to keep one in.
+// slices, and no list of strings or of answers: a slice of slices would ask more of the caller.
 pub fn run(bytes: &[u8], ends: &[usize], numbers: &mut [u32], lines: &mut [i64]) -> Book
     ensures value { (result ≡ book_after empty_book (strings bytes.now ends.now)) × Sound result }
     ensures numbers_after { numbers.new ≡ stored numbers.old (all_numbers (from_empty (strings bytes.now ends.now))) }

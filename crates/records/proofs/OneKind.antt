@@ -65,9 +65,9 @@ another fs r one f away =
     ne_eqb (tag_of_record (Ok r)) f.tag (λ e. miss (others fs) (f.tag - 1) away (subst (OneOf (others fs)) (omega (arith, tag_is r, e)) one))
 
 -- the last arm of a `match`: a record that no numbers of this format make is of another one
-pub of_another : (f : Format) (r : Record) → T (ltb 0 f.tag) → (Ok r ≡ made f.tag (numbers_of (Ok r)) → ⊥) → is_of f (Ok r) ≡ false
-of_another f r listed away = go (is_of f (Ok r)) refl
+pub of_another : (f : Format) (r : Decoded) → T (ltb 0 f.tag) → (r ≡ made f.tag (numbers_of r) → ⊥) → is_of f r ≡ false
+of_another f r listed away = go (is_of f r) refl
   where
-    go : (t : Bool) → is_of f (Ok r) ≡ t → is_of f (Ok r) ≡ false
-    go true q = absurd (away (is_made f (Ok r) listed q))
+    go : (t : Bool) → is_of f r ≡ t → is_of f r ≡ false
+    go true q = absurd (away (is_made f r listed q))
     go false q = q

@@ -1,7 +1,7 @@
 // The next record of a stream.
 #![tactic(auto, unfolding(crate::specs::Stream::next_record))]
 
-ghost use Rattle.std.specs.Prelude.{◌≡◌, min, length};
+ghost use Rattle.std.specs.Prelude.{◌≡◌};
 ghost use Rattle.records.specs.Stream.{next_record};
 
 use crate::decode::{HEAD_BYTES, LENGTH_MOST, pair};
@@ -34,11 +34,4 @@ pub fn next_record(s: &[u8]) -> Next
     } else {
         Next::Whole(end)
     }
-}
-
-// The index `to`, or the end of s where that comes first.
-pub fn end_of(s: &[u8], to: usize) -> usize
-    ensures { result ≡ min to (length s.now) }
-{
-    to.min(s.len())
 }

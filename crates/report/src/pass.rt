@@ -1,9 +1,9 @@
 // The records of a stream: each tried, counted, and its answer printed.
 #![tactic(auto, unfolding(crate::specs::Passes::tried, crate::specs::Passes::closed, crate::specs::Passes::close_answer, crate::specs::Passes::countable, crate::specs::Passes::pass_answer, crate::specs::Printed::answer_text))]
 
-ghost use Rattle.std.specs.Prelude.{◌≡◌, [], ◌+◌, ◌≤◌, ◌<◌, ◌^◌, min, length, take, Ok};
+ghost use Rattle.std.specs.Prelude.{◌≡◌, cond, [], ◌++◌, ◌+◌, ◌≤◌, ◌<◌, ◌^◌, min, leb, length, take, Ok, IsOk};
 ghost use Rattle.book.specs.Runs.{hours_between};
-ghost use Rattle.report.specs.Printed.{lines_most, pair_most};
+ghost use Rattle.report.specs.Printed.{end_line, lines_most, pair_most};
 ghost use Rattle.report.specs.Passes.{State, standing, state_of, at_first, post_area, tried, HoursTaken, stopped, passed, free, room, Left, emptied, countable, pass_answer, text_given, close_answer, finish_answer};
 
 use crate::standing::Report;
@@ -49,6 +49,23 @@ fn post_area(bytes: &[u8]) -> u32
     }
 }
 
+// A text with the last line, whatever was counted.
+pub fn close<const SIZE: usize>(
+    text: &mut ArrayVec<u8, SIZE>,
+    tried: u64,
+    accepted: u64,
+) -> Result<(), Unfinished>
+    ensures value { text_given result text.new.items
+        ≡ cond (leb (length text.old.items + pair_most) SIZE) (text.old.items ++ end_line tried accepted) [] }
+    ensures given { length text.old.items + pair_most ≤ SIZE → IsOk result }
+{
+    if text.remaining_capacity() < PAIR_MOST {
+        return Err(Unfinished);
+    }
+    put_end(text, tried, accepted);
+    Ok(())
+}
+
 impl<const SIZE: usize> Report<SIZE> {
     pub fn new() -> Self
         ensures { state_of result ≡ at_first }
@@ -84,12 +101,6 @@ impl<const SIZE: usize> Report<SIZE> {
             text,
         } = self;
         (book, tried, accepted, text)
-    }
-
-    pub fn tried(&self) -> u64
-        ensures { result ≡ self.now.tried }
-    {
-        self.tried
     }
 
     // A string is tried: entered, counted, and its answer printed.
@@ -183,13 +194,6 @@ impl<const SIZE: usize> Report<SIZE> {
         self.pass_over(&s[..end])
     }
 
-    // The text that is still to be printed.
-    pub fn text(&self) -> &[u8]
-        ensures { result.now ≡ self.now.text.items }
-    {
-        self.text.as_slice()
-    }
-
     // All of the text is printed.
     pub fn clear(&mut self)
         ensures { state_of self.new ≡ emptied (state_of self.old) }
@@ -200,18 +204,16 @@ impl<const SIZE: usize> Report<SIZE> {
     // The last line, after a broken record.
     pub fn close(&mut self) -> Result<(), Unfinished>
         ensures value { text_given result self.new.text.items ≡ close_answer SIZE (state_of self.old) }
+        ensures given { length self.old.text.items + pair_most ≤ SIZE → IsOk result }
         ensures tried { self.new.tried ≡ self.old.tried }
     {
-        if self.text.remaining_capacity() < PAIR_MOST {
-            return Err(Unfinished);
-        }
-        put_end(&mut self.text, self.tried, self.accepted);
-        Ok(())
+        close(&mut self.text, self.tried, self.accepted)
     }
 
     // The end of the input: what is left of it is a cut record, and is tried; then comes the last line.
     pub fn finish(&mut self, rest: &[u8]) -> Result<(), Unfinished>
         ensures value { text_given result self.new.text.items ≡ finish_answer SIZE (state_of self.old) rest.now }
+        ensures given { self.old.tried + 1 < 2 ^ 64 → length self.old.text.items + room ≤ SIZE → IsOk result }
         ensures tried { self.new.tried ≤ self.old.tried + 1 }
     {
         if !rest.is_empty() {

@@ -1,4 +1,5 @@
-// What is printed, put at the end of a text.
+// What is printed, put at the end of a text: piece by piece, and not by `write!`, of which no clause says that it succeeds where
+// there is room.
 #![tactic(auto, using(crate::proofs::Texts::std_decimal, crate::proofs::Texts::std_signed), unfolding(crate::specs::Printed::party_lines, crate::specs::Printed::unless_zero, crate::specs::Printed::refused_line, crate::specs::Printed::party_line, crate::specs::Printed::end_line))]
 
 ghost use Rattle.std.specs.Prelude.{◌≡◌, [], ◌∷◌, ◌++◌, ◌+◌, ◌≤◌, length};
@@ -42,6 +43,7 @@ fn put_field<I: Integer, const SIZE: usize>(out: &mut ArrayVec<u8, SIZE>, n: I)
     put(out, Buffer::new().format(n).as_bytes());
 }
 
+// Two functions for `put_field` at two types, each of which says its text in the words of the definitions.
 fn put_number<const SIZE: usize>(out: &mut ArrayVec<u8, SIZE>, n: u64)
     requires { length out.old.items + field_most ≤ SIZE }
     ensures put { out.new.items ≡ out.old.items ++ field (decimal n) }

@@ -88,11 +88,7 @@ pub fn hour_counts(year: u32, h: HourRecord) -> HourCounts
     ensures hours_most { result.service + result.outage ≤ 1 }
     ensures derated_most { result.derated < 2 ^ 32 }
 {
-    let nothing = HourCounts {
-        service: 0,
-        outage: 0,
-        derated: 0,
-    };
+    let nothing = HourCounts::default();
     if !is_peak(year, h) {
         return nothing;
     }

@@ -29,7 +29,7 @@ pub fn index<const MOST: usize>(number: u32) -> usize
     }
 }
 
-// The index of the area that a record names.
+// The index of the area that a record names; 0, and no Option, for one that names none, since no row asks then. So of the unit.
 pub fn area_named(r: Record) -> usize
     ensures { (result ≡ area_named (Ok r)) × (result < area_count) }
 {

@@ -36,7 +36,7 @@ fn is_rate(n: u32) -> bool
     within(0, 99_999, u64::from(n))
 }
 
-// The numbers of a Unit after its area.
+// The numbers of a Unit after its area. `capacity` has bounds of its own, which say what 64 bits rest on.
 fn rating_fits(r: Rating) -> bool
     ensures { result ≡ fields_fit (drop 2 unit_format.fields) (rating_numbers r) }
 {

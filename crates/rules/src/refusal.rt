@@ -1,9 +1,10 @@
 // The rows of refusal, over what they ask beyond the record.
 #![tactic(auto, unfolding(crate::specs::Refusal::refusal_of, crate::specs::Refusal::in_range, crate::specs::Hours::hour_index, records::specs::Kinds::fault_number))]
 
-ghost use Rattle.std.specs.Prelude.{◌≡◌, false, ◌&&◌, eqb, leb, Ok, Err};
+ghost use Rattle.std.specs.Prelude.{◌≡◌, false, ◌&&◌, eqb, leb, cond, Ok, Err};
 ghost use Rattle.records.specs.declared.format.Record.TheVariants.{Year, Area, Unit, Commitment, Hour, Load, Post};
 ghost use Rattle.rules.specs.Hours.{derated};
+ghost use Rattle.rules.specs.declared.refusal.Refusal.TheVariants.{NoYear, OutOfRange};
 ghost use Rattle.rules.specs.Refusal.{refusal_of, row_number, number_of, IsRow};
 ghost use Rattle.rules.specs.Rules.{asked_of};
 
@@ -104,27 +105,29 @@ impl Asked {
         Ok(())
     }
 
-    fn admit_area(self, r: AreaRecord) -> Result<(), Refusal>
-        ensures { number_of result ≡ refusal_of self (Ok (Area r)) }
+    // Rows 4 and 6 of a record that is no Year.
+    fn admit_fit(self, fits: bool) -> Result<(), Refusal>
+        ensures { result ≡ cond (eqb self.year 0) (Err NoYear) (cond fits (Ok tt) (Err OutOfRange)) }
     {
         if self.year == 0 {
             return Err(Refusal::NoYear);
         }
-        if !area_fits(r) {
+        if !fits {
             return Err(Refusal::OutOfRange);
         }
         Ok(())
     }
 
+    fn admit_area(self, r: AreaRecord) -> Result<(), Refusal>
+        ensures { number_of result ≡ refusal_of self (Ok (Area r)) }
+    {
+        self.admit_fit(area_fits(r))
+    }
+
     fn admit_unit(self, r: UnitRecord) -> Result<(), Refusal>
         ensures { number_of result ≡ refusal_of self (Ok (Unit r)) }
     {
-        if self.year == 0 {
-            return Err(Refusal::NoYear);
-        }
-        if !unit_fits(r) {
-            return Err(Refusal::OutOfRange);
-        }
+        self.admit_fit(unit_fits(r))?;
         if !self.area {
             return Err(Refusal::NotEntered);
         }
@@ -137,12 +140,7 @@ impl Asked {
     fn admit_commitment(self, r: CommitmentRecord) -> Result<(), Refusal>
         ensures { number_of result ≡ refusal_of self (Ok (Commitment r)) }
     {
-        if self.year == 0 {
-            return Err(Refusal::NoYear);
-        }
-        if !commitment_fits(self.year, r) {
-            return Err(Refusal::OutOfRange);
-        }
+        self.admit_fit(commitment_fits(self.year, r))?;
         if !self.unit {
             return Err(Refusal::NotEntered);
         }
@@ -153,12 +151,7 @@ impl Asked {
     pub fn admit_hour(self, r: HourRecord) -> Result<(), Refusal>
         ensures { number_of result ≡ refusal_of self (Ok (Hour r)) }
     {
-        if self.year == 0 {
-            return Err(Refusal::NoYear);
-        }
-        if !hour_fits(self.year, r) {
-            return Err(Refusal::OutOfRange);
-        }
+        self.admit_fit(hour_fits(self.year, r))?;
         if !self.unit {
             return Err(Refusal::NotEntered);
         }
@@ -174,12 +167,7 @@ impl Asked {
     fn admit_load(self, r: LoadRecord) -> Result<(), Refusal>
         ensures { number_of result ≡ refusal_of self (Ok (Load r)) }
     {
-        if self.year == 0 {
-            return Err(Refusal::NoYear);
-        }
-        if !load_fits(r) {
-            return Err(Refusal::OutOfRange);
-        }
+        self.admit_fit(load_fits(r))?;
         if !self.area {
             return Err(Refusal::NotEntered);
         }
@@ -189,12 +177,7 @@ impl Asked {
     fn admit_post(self, r: u32) -> Result<(), Refusal>
         ensures { number_of result ≡ refusal_of self (Ok (Post r)) }
     {
-        if self.year == 0 {
-            return Err(Refusal::NoYear);
-        }
-        if !post_fits(r) {
-            return Err(Refusal::OutOfRange);
-        }
+        self.admit_fit(post_fits(r))?;
         if !self.area {
             return Err(Refusal::NotEntered);
         }

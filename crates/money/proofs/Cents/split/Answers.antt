@@ -11,7 +11,7 @@ returns c =
     map-is (λ f. Unit {0}) c.split_array.result 0 _
     (λ f p y q b captured called.
     let share : PartyShare (above c.args.self.0) c.args.weights c.split_array.result p =
-    party_share _ c.above.ensures.0 (search rules) c.requires c.split_array.ensures p b in
+    party_share _ c.cents_above.ensures.0 (search rules) c.requires c.split_array.ensures p b in
     let made : y ≡ cents (pos (min (element c.split_array.result p) (2 ^ 63 - 1))) = search rules in
     (made ∙ ap (λ (n : ℕ). cents (pos n)) (omega (arith, share.is, share.fits)), tt))
     tt c.map.ensures.items

@@ -9,9 +9,9 @@ use Rattle.money.proofs.area.credits.Goals as goal
 pub split-requires : goal.split-requires
 split-requires c = rw (sum_filled _ c.amounts.ensures) c.requires
 
-pub returns-then-above : goal.returns-then-above
-returns-then-above c =
+pub returns-then-cents_above : goal.returns-then-cents_above
+returns-then-cents_above c =
     c.split.ensures
     ∙ list_same 16 _ _
     (λ p h. ap (λ (n : ℕ). cents (pos n)) (split_same _ 16 (element c.amounts.result) _ (λ k b. rw c.amounts.ensures (element_below 16 _ k 0 b)) p h))
-    ∙ chosen _ (below_of c.above.ensures.0 c.above-2.ensures.0 c.if-above.true)
+    ∙ chosen _ (below_of c.cents_above.ensures.0 c.cents_above-2.ensures.0 c.if-cents_above.true)
