@@ -36,7 +36,7 @@ outcome None r s rest = None
 
 -- the same, of where a run stands
 abbrev pub outlook : {i o : ℕ} → Option (List ℕ) → Ledger i o → Option (List ℕ) → Option (List ℕ)
-outlook printed l rest = outcome printed (state_of l.report) (unread l.input) rest
+outlook printed l rest = outcome printed (state_of l.report l.text.items) (unread l.input) rest
 
 -- a turn keeps what the output is to hold at the end; after the last turn the output holds it
 abbrev pub Follows : {i o : ℕ} → Option (List ℕ) → Option (List ℕ) → Option (List ℕ) → Ledger i o → ControlFlow (Unit {0}) (Unit {0}) → Type 0

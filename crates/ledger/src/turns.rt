@@ -7,6 +7,7 @@ ghost use Rattle.ledger.specs.Input.{record_most, IsCut, outcome, outlook, Follo
 
 use crate::input::Input;
 use crate::standing::Ledger;
+use arrayvec::ArrayVec;
 use report::pass::Stop;
 use report::standing::Report;
 use std::io;
@@ -28,25 +29,26 @@ pub(crate) enum Failure {
 
 impl<const IN: usize, const OUT: usize> Ledger<IN, OUT> {
     pub(crate) fn new() -> Self
-        ensures report { state_of result.report ≡ at_first }
+        ensures report { state_of result.report result.text.items ≡ at_first }
         ensures input { unread result.input ≡ [] }
     {
         Self {
             report: Report::new(),
+            text: ArrayVec::new(),
             input: Input::new(),
         }
     }
 
     // All that is to be printed goes to the output.
     fn print<W: Write>(&mut self, output: &mut W) -> Result<(), Failure>
-        ensures printed { OnOk result (Appends (W.contents output.old) (W.contents output.new) self.old.report.text.items) }
-        ensures report { OnOk result (state_of self.new.report ≡ emptied (state_of self.old.report)) }
+        ensures printed { OnOk result (Appends (W.contents output.old) (W.contents output.new) self.old.text.items) }
+        ensures report { OnOk result (state_of self.new.report self.new.text.items ≡ emptied (state_of self.old.report self.old.text.items)) }
         ensures input { unread self.new.input ≡ unread self.old.input }
     {
         output
-            .write_all(self.report.text())
+            .write_all(self.text.as_slice())
             .map_err(Failure::Output)?;
-        self.report.clear();
+        self.text.clear();
         Ok(())
     }
 
@@ -56,7 +58,7 @@ impl<const IN: usize, const OUT: usize> Ledger<IN, OUT> {
         input: &mut R,
         output: &mut W,
     ) -> Result<ControlFlow<()>, Failure>
-        requires { length self.old.report.text.items + room ≤ OUT }
+        requires { length self.old.text.items + room ≤ OUT }
         ensures { record_most ≤ IN → IsCut (unread self.old.input) → IfOk result (λ next. Follows
             (outlook (W.contents output.old) self.old (R.remaining input.old)) (W.contents output.new) (R.remaining input.new) self.new next) }
     {
@@ -71,7 +73,7 @@ impl<const IN: usize, const OUT: usize> Ledger<IN, OUT> {
         if count != 0 {
             return Ok(ControlFlow::Continue(()));
         }
-        let Ok(()) = self.report.finish(self.input.unread()) else {
+        let Ok(()) = self.report.finish(self.input.unread(), &mut self.text) else {
             unreachable!()
         };
         self.print(output)?;
@@ -88,7 +90,7 @@ impl<const IN: usize, const OUT: usize> Ledger<IN, OUT> {
         ensures { record_most ≤ IN → IfOk result (λ next. Follows
             (outlook (W.contents output.old) self.old (R.remaining input.old)) (W.contents output.new) (R.remaining input.new) self.new next) }
     {
-        let pass = self.report.take(self.input.unread());
+        let pass = self.report.take(self.input.unread(), &mut self.text);
         self.input.consume(pass.next);
         match pass.stop {
             Stop::Full => {
@@ -96,7 +98,7 @@ impl<const IN: usize, const OUT: usize> Ledger<IN, OUT> {
                 Ok(ControlFlow::Continue(()))
             }
             Stop::Broken => {
-                let Ok(()) = self.report.close() else {
+                let Ok(()) = self.report.close(&mut self.text) else {
                     unreachable!()
                 };
                 self.print(output)?;

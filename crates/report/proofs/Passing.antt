@@ -1,5 +1,5 @@
 -- A pass over a buffer, record by record: hours in a row are so many records tried, counted, and nothing is printed.
-use Rattle.std.proofs.Common.{◌≡◌, refl, sym, ap, ◌∙◌, Bool, true, false, cond, ◌&&◌, List, [], append-nil, ℕ, zero, suc, ◌+◌, ◌*◌, ◌-◌, ◌/◌, ◌≤◌, ◌<◌, min}
+use Rattle.std.proofs.Common.{◌≡◌, refl, sym, ap, ◌∙◌, Bool, true, false, List, [], append-nil, ℕ, zero, suc, ◌+◌, ◌*◌, ◌-◌, ◌/◌, ◌≤◌, ◌<◌, min}
 use Rattle.std.proofs.Common.{add-zero, le_refl, add-one, arith, eqb, ltb, length, take, drop, length-drop, take_all, eqb-true, lt-ltb, le-ltb, le-leb, ◌∷◌, ◌^◌}
 use mathlib.Core.Bool.{false≢true}
 use Rattle.std.proofs.lemmas.List.{drop-drop}
@@ -17,7 +17,7 @@ use Rattle.book.specs.declared.Book.{Book}
 use Rattle.book.specs.Books.{facts_of_book}
 use Rattle.book.specs.Entered.{no_lines, lines_of, entered}
 use Rattle.book.specs.Runs.{Run, run, hour_length, hour_bytes, is_accepted_hour, hours_of, hours_between}
-use Rattle.report.specs.Passes.{State, post_area, tried, with_hours, HoursTaken, stopped, room, on_next, pass_of, passed, Left, ended, closed, pass_answer, countable, close_answer, finish_answer}
+use Rattle.report.specs.Passes.{State, standing, post_area, tried, with_hours, HoursTaken, stopped, room, on_next, pass_of, passed, Left, ended, closed, pass_answer, countable, close_answer, finish_answer}
 use Rattle.report.specs.declared.pass.Stop.TheVariants as stop
 use Rattle.report.specs.Printed.{pair_most, party_lines, answer_text}
 
@@ -56,6 +56,13 @@ hours_inside b s e =
 pub hours_counted : (r : State) (s : List ℕ) {taken : ℕ} {after : Book} → run taken after ≡ hours_between r.book s 0 (length s)
     → HoursTaken r s taken (record { book = after; tried = r.tried + taken / hour_length; accepted = r.accepted + taken / hour_length; text = r.text })
 hours_counted r s e = (ap (λ (x : Run). x.next) e, ap (with_hours r) e, hours_inside r.book s e)
+
+-- the same, whatever was printed before
+abbrev pub with_text : List ℕ → State → State
+with_text text r = standing r.book r.tried r.accepted text
+
+pub any_text : (text : List ℕ) (r x : State) (s : List ℕ) {taken : ℕ} → HoursTaken r s taken x → HoursTaken (with_text text r) s taken (with_text text x)
+any_text text r x s (next, after, inside) = (next, ap (with_text text) after, inside)
 
 -- a state with so many hours more
 abbrev counted : State → Book → ℕ → State

@@ -1,5 +1,5 @@
 -- The records of a buffer, one after another. 01, The ledger program.
-use Rattle.std.specs.Prelude.{◌≡◌, Bool, cond, ◌&&◌, List, [], ◌∷◌, ◌++◌, min, ◌<◌, ℕ, zero, suc, ◌+◌, ◌-◌, ◌/◌, ◌^◌, ◌≤◌, eqb, ltb, leb, length, take, drop, Result, Ok, Err}
+use Rattle.std.specs.Prelude.{◌≡◌, cond, ◌&&◌, List, [], ◌∷◌, ◌++◌, ℕ, zero, suc, ◌+◌, ◌-◌, ◌/◌, ◌^◌, ◌≤◌, eqb, ltb, leb, length, take, drop, Result, Ok, Err}
 use Rattle.records.specs.declared.stream.Next.{Next}
 use Rattle.records.specs.declared.stream.Next.TheVariants.{Whole, Broken, Partial}
 use Rattle.records.specs.Stream.{next_record}
@@ -24,9 +24,9 @@ pub record State : Type 0 where
 abbrev pub standing : Book → ℕ → ℕ → List ℕ → State
 standing book tried accepted text = record { book = book; tried = tried; accepted = accepted; text = text }
 
--- what a report stands for
-abbrev pub state_of : {size : ℕ} → Report size → State
-state_of r = standing r.book r.tried r.accepted r.text.items
+-- what a report stands for, with the text that is to be printed
+abbrev pub state_of : Report → List ℕ → State
+state_of r text = standing r.book r.tried r.accepted text
 
 -- nothing was entered or tried, and nothing is to be printed
 abbrev pub at_first : State

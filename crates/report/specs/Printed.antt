@@ -1,6 +1,6 @@
 -- What is printed, as bytes in ASCII: 82 is R, 80 P, 69 E, 48 to 57 the digits, 45 the minus sign, 32 a blank and 10 the end of a line.
 -- 01, The ledger program.
-use Rattle.std.specs.Prelude.{cond, List, [], ◌∷◌, ◌++◌, ℕ, zero, suc, ◌+◌, ◌*◌, ◌/◌, ◌%◌, ℤ, pos, negsuc, nat_abs, eqb, ltb, length, get_or}
+use Rattle.std.specs.Prelude.{cond, List, [], ◌∷◌, ◌++◌, ℕ, zero, suc, ◌+◌, ◌*◌, ◌/◌, ◌%◌, ℤ, pos, negsuc, nat_abs, eqb, ltb, get_or}
 use Rattle.money.specs.declared.Cents.{Cents}
 use Rattle.money.specs.Quantities.{cents}
 use Rattle.records.specs.Format.{party_count}

@@ -1,6 +1,7 @@
 // The report: what is printed, and the records of a stream, each tried, counted and answered.
 #![tactic(auto)]
 
+pub mod buffer;
 pub mod pass;
 pub mod standing;
 mod text;

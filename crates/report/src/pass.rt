@@ -6,9 +6,9 @@ ghost use Rattle.book.specs.Runs.{hours_between};
 ghost use Rattle.report.specs.Printed.{end_line, lines_most, pair_most};
 ghost use Rattle.report.specs.Passes.{State, standing, state_of, at_first, post_area, tried, HoursTaken, stopped, passed, free, room, Left, emptied, countable, pass_answer, text_given, close_answer, finish_answer};
 
+use crate::buffer::Buffer;
 use crate::standing::Report;
 use crate::text::{LINES_MOST, PAIR_MOST, put_end, put_lines, put_refusal};
-use arrayvec::ArrayVec;
 use book::Book;
 use records::decode::decode;
 use records::format::{HOUR_BYTES, Record};
@@ -49,81 +49,76 @@ fn post_area(bytes: &[u8]) -> u32
     }
 }
 
-// A text with the last line, whatever was counted.
-pub fn close<const SIZE: usize>(
-    text: &mut ArrayVec<u8, SIZE>,
-    tried: u64,
-    accepted: u64,
-) -> Result<(), Unfinished>
-    ensures value { text_given result text.new.items
-        ≡ cond (leb (length text.old.items + pair_most) SIZE) (text.old.items ++ end_line tried accepted) [] }
-    ensures given { length text.old.items + pair_most ≤ SIZE → IsOk result }
+// The last line, whatever was counted.
+pub fn close<B: Buffer>(out: &mut B, tried: u64, accepted: u64) -> Result<(), Unfinished>
+    ensures value { text_given result (B.text out.new)
+        ≡ cond (leb (length (B.text out.old) + pair_most) (B.size out.old)) (B.text out.old ++ end_line tried accepted) [] }
+    ensures size { B.size out.new ≡ B.size out.old }
+    ensures given { length (B.text out.old) + pair_most ≤ B.size out.old → IsOk result }
 {
-    if text.remaining_capacity() < PAIR_MOST {
+    if out.room() < PAIR_MOST {
         return Err(Unfinished);
     }
-    put_end(text, tried, accepted);
+    put_end(out, tried, accepted);
     Ok(())
 }
 
-impl<const SIZE: usize> Report<SIZE> {
+impl Report {
     pub fn new() -> Self
-        ensures { state_of result ≡ at_first }
+        ensures { state_of result [] ≡ at_first }
     {
         Self {
             book: Book::new(),
             tried: 0,
             accepted: 0,
-            text: ArrayVec::new(),
         }
     }
 
     // A run from any standing; no more records are accepted than tried.
-    pub fn resume(book: Book, tried: u64, accepted: u64, text: ArrayVec<u8, SIZE>) -> Self
-        ensures { state_of result ≡ standing book tried (min accepted tried) text.entry.items }
+    pub fn resume(book: Book, tried: u64, accepted: u64) -> Self
+        ensures { state_of result [] ≡ standing book tried (min accepted tried) [] }
     {
         Self {
             book,
             tried,
             accepted: accepted.min(tried),
-            text,
         }
     }
 
-    // The book, the records tried and accepted, and the text.
-    pub fn into_parts(self) -> (Book, u64, u64, ArrayVec<u8, SIZE>)
-        ensures { standing result.0 result.1 result.2 result.3.items ≡ state_of self.entry }
+    // The book, and the records tried and accepted.
+    pub fn into_parts(self) -> (Book, u64, u64)
+        ensures { standing result.0 result.1 result.2 [] ≡ state_of self [] }
     {
         let Self {
             book,
             tried,
             accepted,
-            text,
         } = self;
-        (book, tried, accepted, text)
+        (book, tried, accepted)
     }
 
     // A string is tried: entered, counted, and its answer printed.
-    fn try_record(&mut self, bytes: &[u8])
+    fn try_record<B: Buffer>(&mut self, bytes: &[u8], out: &mut B)
         requires fits { self.old.tried + 1 < 2 ^ 64 }
-        requires has_room { length self.old.text.items + lines_most ≤ SIZE }
-        ensures value { state_of self.new ≡ tried (state_of self.old) bytes.now }
-        ensures most { length self.new.text.items ≤ length self.old.text.items + lines_most }
+        requires has_room { length (B.text out.old) + lines_most ≤ B.size out.old }
+        ensures value { state_of self.new (B.text out.new) ≡ tried (state_of self.old (B.text out.old)) bytes.now }
+        ensures size { B.size out.new ≡ B.size out.old }
+        ensures most { length (B.text out.new) ≤ length (B.text out.old) + lines_most }
     {
         self.tried += 1;
         match self.book.enter(bytes) {
             Ok(lines) => {
                 self.accepted += 1;
-                put_lines(&mut self.text, post_area(bytes), lines);
+                put_lines(out, post_area(bytes), lines);
             }
-            Err(refusal) => put_refusal(&mut self.text, self.tried, refusal.number()),
+            Err(refusal) => put_refusal(out, self.tried, refusal.number()),
         }
     }
 
     // Accepted hours in a row: they are counted, and nothing is printed. Answers how many bytes they are.
     fn take_hours(&mut self, s: &[u8]) -> usize
         requires { self.old.tried + length s.now < 2 ^ 64 }
-        ensures { HoursTaken (state_of self.old) s.now result (state_of self.new) }
+        ensures { HoursTaken (state_of self.old []) s.now result (state_of self.new []) }
     {
         let taken = self.book.hours(s);
         let hours = (taken / HOUR_BYTES) as u64;
@@ -134,15 +129,17 @@ impl<const SIZE: usize> Report<SIZE> {
 
     // The records of s, until there is no room for another answer or no whole record is left. Each turn takes a record, of a
     // size that it only then knows: no `for` goes by that.
-    fn pass_over(&mut self, s: &[u8]) -> Pass
+    fn pass_over<B: Buffer>(&mut self, s: &[u8], out: &mut B) -> Pass
         requires { self.old.tried + length s.now < 2 ^ 64 }
-        ensures value { stopped (state_of self.new) result.next result.stop ≡ passed SIZE (state_of self.old) s.now }
-        ensures has_room { length self.new.text.items + free result.stop ≤ SIZE }
+        ensures value { stopped (state_of self.new (B.text out.new)) result.next result.stop
+            ≡ passed (B.size out.old) (state_of self.old (B.text out.old)) s.now }
+        ensures size { B.size out.new ≡ B.size out.old }
+        ensures has_room { length (B.text out.new) + free result.stop ≤ B.size out.old }
         ensures left { Left result.next self.new.tried self.old.tried s.now }
     {
         let mut at = 0;
         loop {
-            if self.text.remaining_capacity() < ROOM {
+            if out.room() < ROOM {
                 return Pass {
                     next: at,
                     stop: Stop::Full,
@@ -158,14 +155,14 @@ impl<const SIZE: usize> Report<SIZE> {
                     };
                 }
                 Next::Broken => {
-                    self.try_record(rest);
+                    self.try_record(rest, out);
                     return Pass {
                         next: s.len(),
                         stop: Stop::Broken,
                     };
                 }
                 Next::Whole(length) => {
-                    self.try_record(&rest[..length]);
+                    self.try_record(&rest[..length], out);
                     at += length;
                 }
             }
@@ -185,43 +182,39 @@ impl<const SIZE: usize> Report<SIZE> {
 
     // The records of s are tried, until there is no room for another answer or no whole record is left. Where the counts might
     // not fit, none is.
-    pub fn take(&mut self, s: &[u8]) -> Pass
-        ensures value { stopped (state_of self.new) result.next result.stop ≡ pass_answer SIZE (state_of self.old) s.now }
-        ensures has_room { length self.new.text.items + free result.stop ≤ SIZE }
+    pub fn take<B: Buffer>(&mut self, s: &[u8], out: &mut B) -> Pass
+        ensures value { stopped (state_of self.new (B.text out.new)) result.next result.stop
+            ≡ pass_answer (B.size out.old) (state_of self.old (B.text out.old)) s.now }
+        ensures size { B.size out.new ≡ B.size out.old }
+        ensures has_room { length (B.text out.new) + free result.stop ≤ B.size out.old }
         ensures left { Left result.next self.new.tried self.old.tried s.now }
     {
         let end = self.countable(s.len());
-        self.pass_over(&s[..end])
-    }
-
-    // All of the text is printed.
-    pub fn clear(&mut self)
-        ensures { state_of self.new ≡ emptied (state_of self.old) }
-    {
-        self.text.clear();
+        self.pass_over(&s[..end], out)
     }
 
     // The last line, after a broken record.
-    pub fn close(&mut self) -> Result<(), Unfinished>
-        ensures value { text_given result self.new.text.items ≡ close_answer SIZE (state_of self.old) }
-        ensures given { length self.old.text.items + pair_most ≤ SIZE → IsOk result }
-        ensures tried { self.new.tried ≡ self.old.tried }
+    pub fn close<B: Buffer>(&self, out: &mut B) -> Result<(), Unfinished>
+        ensures value { text_given result (B.text out.new) ≡ close_answer (B.size out.old) (state_of self.now (B.text out.old)) }
+        ensures size { B.size out.new ≡ B.size out.old }
+        ensures given { length (B.text out.old) + pair_most ≤ B.size out.old → IsOk result }
     {
-        close(&mut self.text, self.tried, self.accepted)
+        close(out, self.tried, self.accepted)
     }
 
     // The end of the input: what is left of it is a cut record, and is tried; then comes the last line.
-    pub fn finish(&mut self, rest: &[u8]) -> Result<(), Unfinished>
-        ensures value { text_given result self.new.text.items ≡ finish_answer SIZE (state_of self.old) rest.now }
-        ensures given { self.old.tried + 1 < 2 ^ 64 → length self.old.text.items + room ≤ SIZE → IsOk result }
+    pub fn finish<B: Buffer>(&mut self, rest: &[u8], out: &mut B) -> Result<(), Unfinished>
+        ensures value { text_given result (B.text out.new) ≡ finish_answer (B.size out.old) (state_of self.old (B.text out.old)) rest.now }
+        ensures size { B.size out.new ≡ B.size out.old }
+        ensures given { self.old.tried + 1 < 2 ^ 64 → length (B.text out.old) + room ≤ B.size out.old → IsOk result }
         ensures tried { self.new.tried ≤ self.old.tried + 1 }
     {
         if !rest.is_empty() {
-            if self.tried == u64::MAX || self.text.remaining_capacity() < ROOM {
+            if self.tried == u64::MAX || out.room() < ROOM {
                 return Err(Unfinished);
             }
-            self.try_record(rest);
+            self.try_record(rest, out);
         }
-        self.close()
+        self.close(out)
     }
 }

@@ -4,4 +4,5 @@ use Rattle.report.proofs.text.put_lines.Given as goal
 
 abbrev pub invariant-loop-p : goal.invariant-loop-p
 invariant-loop-p g l =
-    (l.out.items ≡ l.initial.out.items ++ party_lines l.area l.fn.lines l.p) × (length l.out.items ≤ length l.initial.out.items + l.p * line_most)
+    (g.B.Buffer.text l.out ≡ g.B.Buffer.text l.initial.out ++ party_lines l.area l.fn.lines l.p) × (g.B.Buffer.size l.out ≡ g.B.Buffer.size l.initial.out)
+    × (length (g.B.Buffer.text l.out) ≤ length (g.B.Buffer.text l.initial.out) + l.p * line_most)

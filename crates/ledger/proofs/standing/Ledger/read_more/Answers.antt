@@ -11,7 +11,7 @@ pub returns-then-count-ne0 : goal.returns-then-count-ne0
 returns-then-count-ne0 g c =
     λ room cut.
     let (bs, whole, size, read, end) = c.in-Ok.ensures in
-    rw whole (outcome_read (g.W.Write.contents c.args.output.now) (state_of c.args.self.now.report) (unread c.args.self.now.input) bs
+    rw whole (outcome_read (g.W.Write.contents c.args.output.now) (state_of c.args.self.now.report c.args.self.now.text.items) (unread c.args.self.now.input) bs
     (g.R.Read.remaining c.args.input.now) (g.R.Read.remaining c.read_from.new.reader) read)
 
 pub returns : goal.returns
@@ -20,10 +20,10 @@ returns g c =
     let (bs, whole, size, read, end) = c.in-Ok.ensures in
     let none : bs ≡ [] = nil_from_length bs (size ∙ c.if-count-ne0.false) in
     let short = partial_most (unread c.args.self.now.input) cut in
-    let last = last_lines g.row.OUT (state_of c.args.self.now.report) (unread c.args.self.now.input) bs c.unread.result.now c.finish.new.self.text.items
+    let last = last_lines g.row.OUT (state_of c.args.self.now.report c.args.self.now.text.items) (unread c.args.self.now.input) bs c.unread.result.now c.finish.new.out.items
     c.requires (omega arith) c.in-Ok-finish.ensures.value (c.unread.ensures.value ∙ whole) none in
     outcome_at_end (g.W.Write.contents c.args.output.now) (g.W.Write.contents c.print.new.output)
-    (state_of c.args.self.now.report) (unread c.args.self.now.input) bs
+    (state_of c.args.self.now.report c.args.self.now.text.items) (unread c.args.self.now.input) bs
     (g.R.Read.remaining c.args.input.now) (g.R.Read.remaining c.read_from.new.reader)
     cut none read (end c.if-count-ne0.false (omega arith))
     (subst (λ (x : List ℕ). Appends (g.W.Write.contents c.args.output.now) (g.W.Write.contents c.print.new.output) x) last c.in_ok-print.ensures.printed)

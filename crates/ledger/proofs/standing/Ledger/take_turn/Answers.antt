@@ -8,8 +8,8 @@ use Rattle.ledger.proofs.standing.Ledger.take_turn.Goals as goal
 pub returns-in_ok-print-in-Full : goal.returns-in_ok-print-in-Full
 returns-in_ok-print-in-Full g c =
     λ room.
-    let passed = c.take-pass.ensures.value ∙ passed_all g.row.OUT (state_of c.args.self.now.report) (unread c.args.self.now.input) c.unread.ensures.value (omega arith) in
-    full_turn g.row.OUT (state_of c.args.self.now.report) (state_of c.take-pass.new.self) (unread c.args.self.now.input) (unread c.print.new.self.input)
+    let passed = c.take-pass.ensures.value ∙ passed_all g.row.OUT (state_of c.args.self.now.report c.args.self.now.text.items) (unread c.args.self.now.input) c.unread.ensures.value (omega arith) in
+    full_turn g.row.OUT (state_of c.args.self.now.report c.args.self.now.text.items) (state_of c.take-pass.new.self c.take-pass.new.out.items) (unread c.args.self.now.input) (unread c.print.new.self.input)
     c.take-pass.result.next c.take-pass.result.stop passed (c.in_ok-print-in-Full.ensures.input ∙ c.consume.ensures.value)
     (g.W.Write.contents c.args.output.now) (g.W.Write.contents c.print.new.output) (g.R.Read.remaining c.args.input.now)
     c.in-Full.is c.in_ok-print-in-Full.ensures.report c.in_ok-print-in-Full.ensures.printed
@@ -17,22 +17,22 @@ returns-in_ok-print-in-Full g c =
 pub returns-in_ok-print-in-Broken : goal.returns-in_ok-print-in-Broken
 returns-in_ok-print-in-Broken g c =
     λ room.
-    let passed = c.take-pass.ensures.value ∙ passed_all g.row.OUT (state_of c.args.self.now.report) (unread c.args.self.now.input) c.unread.ensures.value (omega arith) in
-    broken_turn g.row.OUT (state_of c.args.self.now.report) (state_of c.take-pass.new.self) (unread c.args.self.now.input) (unread c.consume.new.self)
+    let passed = c.take-pass.ensures.value ∙ passed_all g.row.OUT (state_of c.args.self.now.report c.args.self.now.text.items) (unread c.args.self.now.input) c.unread.ensures.value (omega arith) in
+    broken_turn g.row.OUT (state_of c.args.self.now.report c.args.self.now.text.items) (state_of c.take-pass.new.self c.take-pass.new.out.items) (unread c.args.self.now.input) (unread c.consume.new.self)
     c.take-pass.result.next c.take-pass.result.stop passed c.consume.ensures.value
     (g.W.Write.contents c.args.output.now) (g.W.Write.contents c.print-in-Broken.new.output) (g.R.Read.remaining c.args.input.now)
-    c.close.new.self.text.items c.in-Broken.is
-    (c.in-Ok.ensures.value ∙ close_room g.row.OUT (state_of c.take-pass.new.self) (rw c.in-Broken.is at c.take-pass.ensures.has_room))
+    c.close.new.out.items c.in-Broken.is
+    (c.in-Ok.ensures.value ∙ close_room g.row.OUT (state_of c.take-pass.new.self c.take-pass.new.out.items) (rw c.in-Broken.is at c.take-pass.ensures.has_room))
     c.in_ok-print-in-Broken.ensures.printed
 
 pub returns-in-Partial : goal.returns-in-Partial
 returns-in-Partial g c =
     λ room.
-    let passed = c.take-pass.ensures.value ∙ passed_all g.row.OUT (state_of c.args.self.now.report) (unread c.args.self.now.input) c.unread.ensures.value (omega arith) in
+    let passed = c.take-pass.ensures.value ∙ passed_all g.row.OUT (state_of c.args.self.now.report c.args.self.now.text.items) (unread c.args.self.now.input) c.unread.ensures.value (omega arith) in
     all_follow {i = g.row.IN} {o = g.row.OUT} c.read_more.result _ _ _ _ c.read_more.new.self
-    (partial_turn g.row.OUT (state_of c.args.self.now.report) (state_of c.take-pass.new.self) (unread c.args.self.now.input) (unread c.consume.new.self)
+    (partial_turn g.row.OUT (state_of c.args.self.now.report c.args.self.now.text.items) (state_of c.take-pass.new.self c.take-pass.new.out.items) (unread c.args.self.now.input) (unread c.consume.new.self)
     c.take-pass.result.next c.take-pass.result.stop passed c.consume.ensures.value
     (g.W.Write.contents c.args.output.now) (g.R.Read.remaining c.args.input.now) c.in-Partial.is)
     (c.read_more.ensures room
-    (partial_cut g.row.OUT (state_of c.args.self.now.report) (state_of c.take-pass.new.self) (unread c.args.self.now.input) (unread c.consume.new.self)
+    (partial_cut g.row.OUT (state_of c.args.self.now.report c.args.self.now.text.items) (state_of c.take-pass.new.self c.take-pass.new.out.items) (unread c.args.self.now.input) (unread c.consume.new.self)
     c.take-pass.result.next c.take-pass.result.stop passed c.consume.ensures.value c.in-Partial.is))
