@@ -4,15 +4,8 @@ use Rattle.std.proofs.lemmas.List.{nil_from_length}
 use Rattle.report.specs.Passes.{state_of}
 use Rattle.ledger.specs.Unread.{unread}
 use Rattle.ledger.proofs.Streams.{partial_most}
-use Rattle.ledger.proofs.Outcomes.{outcome_read, outcome_at_end, last_lines}
+use Rattle.ledger.proofs.Outcomes.{outcome_at_end, last_lines}
 use Rattle.ledger.proofs.standing.Ledger.read_more.Goals as goal
-
-pub returns-then-count-ne0 : goal.returns-then-count-ne0
-returns-then-count-ne0 g c =
-    λ room cut.
-    let (bs, whole, size, read, end) = c.in-Ok.ensures in
-    rw whole (outcome_read (g.W.Write.contents c.args.output.now) (state_of c.args.self.now.report c.args.self.now.text.items) (unread c.args.self.now.input) bs
-    (g.R.Read.remaining c.args.input.now) (g.R.Read.remaining c.read_from.new.reader) read)
 
 pub returns : goal.returns
 returns g c =
