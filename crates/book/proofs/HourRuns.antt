@@ -108,9 +108,9 @@ module _ (s t : List ℕ) (from : ℕ) (same : (k : ℕ) → k + hour_length ≤
       go false e = refl
 
 -- so that the run between two places is that of the bytes between them
-pub run_of_part : (b : Book) (s : List ℕ) (from to : ℕ) → from ≤ min to (length s) → let t = take (min to (length s) - from) (drop from s) in
+pub run_of_part : (b : Book) (s : List ℕ) (from to : ℕ) → let t = take (min to (length s) - from) (drop from s) in
     hours_between b s from to ≡ run (from + (hours_between b t 0 (length t)).next) (hours_between b t 0 (length t)).book
-run_of_part b s from to h =
+run_of_part b s from to =
     rw count
     (ap (λ (at : ℕ). hours_of ((min (length t) (length t) - 0) / hour_length) b s at) (sym (add-zero from))
     ∙ moved_by s t from bytes ((min (length t) (length t) - 0) / hour_length) 0 b (omega arith))
