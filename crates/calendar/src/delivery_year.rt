@@ -9,7 +9,7 @@ use crate::gregorian::{Date, is_leap_year};
 pub fn delivery_days(year: u32) -> u32
     ensures { result ≡ delivery_days year }
 {
-    365 + is_leap_year(year as u64 + 1) as u32
+    365 + u32::from(is_leap_year(u64::from(year) + 1))
 }
 
 // A month and a day of a delivery year, as they are asked for: the year may have no such date.
@@ -29,7 +29,7 @@ impl DeliveryDate {
         ensures day { result.day ≡ self.day }
     {
         Date {
-            year: self.year as u64 + (self.month < 6) as u64,
+            year: u64::from(self.year) + u64::from(self.month < 6),
             month: self.month,
             day: self.day,
         }
@@ -53,7 +53,7 @@ impl DeliveryDate {
             return 0;
         }
         let first_june = Date {
-            year: self.year as u64,
+            year: u64::from(self.year),
             month: 6,
             day: 1,
         };

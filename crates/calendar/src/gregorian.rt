@@ -73,14 +73,14 @@ impl Date {
     fn leap_day(self) -> u64
         ensures { result ≡ cond (leap_year self.year && ltb 2 self.month) 1 0 }
     {
-        (2 < self.month && is_leap_year(self.year)) as u64
+        u64::from(2 < self.month && is_leap_year(self.year))
     }
 
     #[tactic(auto, using(crate::proofs::Months::before_at), unfolding(crate::specs::Gregorian::day_of_year))]
     fn day_of_year(self) -> u64
         ensures { (result ≡ day_of_year self.year self.month self.day) × (result < 2 ^ 33) }
     {
-        days_before_month(self.month) as u64 + self.leap_day() + self.day as u64
+        u64::from(days_before_month(self.month)) + self.leap_day() + u64::from(self.day)
     }
 
     #[tactic(auto, unfolding(crate::specs::Gregorian::day_number))]

@@ -19,7 +19,7 @@ pub fn is_peak_hour(year: u32, month: u32, day: u32, hour_ending: u32) -> Option
     ensures { peak_number result ≡ peak_answer year month day hour_ending }
 {
     let date = Date {
-        year: year as u64,
+        year: u64::from(year),
         month,
         day,
     };

@@ -33,7 +33,7 @@ impl Date {
     {
         match (self.month, self.day) {
             (1, 1) | (7, 4) => true,
-            (1..=2, day) => day as u64 == self.third_monday(),
+            (1..=2, day) => u64::from(day) == self.third_monday(),
             _ => false,
         }
     }
