@@ -19,15 +19,6 @@ keeps_on (Some xs) None z p q = absurd p
 keeps_on (Some xs) (Some ys) None p q = absurd q
 keeps_on (Some xs) (Some ys) (Some zs) p q = q ∙ p
 
--- bytes go from the input to those that are still to be tried
-pub outcome_read : (printed : Option (List ℕ)) (r : State) (s bs : List ℕ) (rest rest' : Option (List ℕ))
-    → Consumes rest rest' bs → Keeps (outcome printed r s rest) (outcome printed r (s ++ bs) rest')
-outcome_read None r s bs rest rest' e = tt
-outcome_read (Some p) r s bs None rest' e = tt
-outcome_read (Some p) r s bs (Some xs) None e = absurd e
-outcome_read (Some p) r s bs (Some xs) (Some ys) e =
-    ap (λ (x : List ℕ). p ++ printed_from r x) (append_assoc s bs ys ∙ ap (λ (x : List ℕ). s ++ x) (sym e))
-
 -- records of the buffer are tried
 outcome_pass : (printed : Option (List ℕ)) (r r' : State) (s s' : List ℕ) (rest : Option (List ℕ))
     → ((xs : List ℕ) → printed_from r (s ++ xs) ≡ printed_from r' (s' ++ xs))
