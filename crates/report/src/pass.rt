@@ -49,7 +49,7 @@ fn post_area(bytes: &[u8]) -> u32
     }
 }
 
-// The last line, whatever was counted.
+// The last line, whatever was counted: two numbers here, and no Report, in which no more are accepted than tried.
 pub fn close<B: Buffer>(out: &mut B, tried: u64, accepted: u64) -> Result<(), Unfinished>
     ensures value { text_given result (B.text out.new)
         ≡ cond (leb (length (B.text out.old) + pair_most) (B.size out.old)) (B.text out.old ++ end_line tried accepted) [] }
@@ -169,7 +169,7 @@ impl Report {
         }
     }
 
-    // So many records, if the count of records tried fits 64 bits with them; else none.
+    // So many records, if the count of records tried fits 64 bits with them; else none, a number as well: what to take of s.
     fn countable(&self, more: usize) -> usize
         ensures value { result ≡ countable self.now.tried more }
         ensures most { (result ≤ more) × (self.now.tried + result < 2 ^ 64) }

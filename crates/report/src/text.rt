@@ -12,8 +12,8 @@ use book::Book;
 use itoa::Integer;
 use money::Cents;
 
-// What a text asks is room for the most bytes that it can have, and a type for room would be longer than the clause. The most bytes
-// of each, from those of its parts; specs/Printed.antt says what the parts are.
+// What a text asks is room for the most bytes that it can have, and a type for room would be longer than the clause. The buffer is
+// the caller's, and lent to each. The most bytes of each text, from those of its parts; specs/Printed.antt says what the parts are.
 const DIGITS_MOST: usize = 20;
 
 const FIELD_MOST: usize = 1 + DIGITS_MOST;
