@@ -44,7 +44,7 @@ impl DeliveryDate {
     }
 
     // The day of the delivery year, where day 0 is 1 June; 0 also where the year has no such date, and no Option, since row 6 refuses
-    // such a record before a row asks its day.
+    // such a record before a row asks its day. `as` narrows, as `From` never does, and loses nothing: the year has 366 days at most.
     #[tactic(auto, using(crate::proofs::DeliveryYears::in_year, crate::proofs::DeliveryYears::days_at_most), unfolding(crate::specs::DeliveryYear::delivery_day))]
     pub fn day_of_year(self) -> u32
         ensures { result ≡ delivery_day self.year self.month self.day }

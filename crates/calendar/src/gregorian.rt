@@ -42,6 +42,7 @@ pub(crate) struct Date {
 }
 
 impl Date {
+    // 0 of what is no month, and no Option: it then has no day, which is all that `is_in_calendar` asks.
     #[tactic(auto, unfolding(crate::specs::Gregorian::month_days, numbers::specs::Range::within))]
     fn days_of_month(self) -> u32
         ensures { result ≡ days_of_month self.year self.month }

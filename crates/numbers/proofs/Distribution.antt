@@ -3,12 +3,15 @@ use Rattle.std.proofs.Common.{◌≡◌, refl, sym, ap, ◌∙◌, Bool, true, f
 use Rattle.std.proofs.Common.{mul_comm, mul-le-mul_left, le-mul_of_pos_right, arith, ltb, length, ltb-true}
 use Rattle.std.proofs.Common.{ltb-false, lt-ltb}
 use lib.ListN.{get_or-eq_default}
+use Rattle.std.specs.Array.{IsMapOf}
+use Rattle.std.specs.Fn.{Mut, Called}
 use Rattle.numbers.specs.Sum.{sum_below}
 use Rattle.numbers.specs.Lists.{list_below, element}
 use Rattle.numbers.specs.Split.{first_shares, split, split_answer}
 use Rattle.numbers.proofs.Sums.{sum_one_more, sum_grows}
 use Rattle.numbers.proofs.Tests.{both_true}
 use Rattle.numbers.proofs.Lists.{element_below, list_same}
+use Rattle.numbers.proofs.Arrays.{map-is}
 use Rattle.numbers.proofs.CappedSums.{total}
 use Rattle.numbers.proofs.Splits.{floor_grows, share_at_most, no_amount, no_weights}
 
@@ -90,19 +93,17 @@ answer_none a ws n {z} isz e = go (ltb (a * total ws) (2 ^ 63)) refl
     go false q = refl
     go true q = list_same n (λ k. 0) shares (λ k b. nothing (ltb 0 a) (ltb 0 z) refl refl (ltb-true (a * total ws) (2 ^ 63) q) k)
 
--- what `split_array` answers for party k of sixteen, where the product fits
-pub record PartyShare (a : ℕ) (ws r : List ℕ) (k : ℕ) : Type 0 where
-  pub is : element r k ≡ split a 16 (element ws) k
-  pub fits : element r k < 2 ^ 63
-
+-- What `split_array` answers for sixteen parties, where the product fits, and what an array's `map` makes of it: `put` of each share.
 module _ {a n : ℕ} (ws : List ℕ) {r : List ℕ} (amount : n ≡ a) (sixteen : length ws ≡ 16) (fits : a * sum_below 16 (element ws) < 2 ^ 63)
-    (e : r ≡ split_answer n ws 16) (k : ℕ) (h : k < 16) where
-  party_shares : r ≡ list_below 16 (split a 16 (element ws))
-  party_shares =
-      e ∙ rw amount (answer_shares a ws 16 (rw sixteen fits)) ∙ ap (λ (m : ℕ). list_below 16 (split a m (element ws))) sixteen
+    (e : r ≡ split_answer n ws 16) where
+  party_share : (k : ℕ) → k < 16 → element r k ≡ split a 16 (element ws) k
+  party_share k h =
+      let shares : r ≡ list_below 16 (split a 16 (element ws)) =
+      e ∙ rw amount (answer_shares a ws 16 (rw sixteen fits)) ∙ ap (λ (m : ℕ). list_below 16 (split a m (element ws))) sixteen in
+      ap (λ (l : List ℕ). element l k) shares ∙ element_below 16 (split a 16 (element ws)) k 0 h
 
-  share_fits : split a 16 (element ws) k < 2 ^ 63
-  share_fits = go (ltb 0 (sum_below 16 (element ws))) refl
+  share_fits : (k : ℕ) → k < 16 → split a 16 (element ws) k < 2 ^ 63
+  share_fits k h = go (ltb 0 (sum_below 16 (element ws))) refl
     where
       go : (t : Bool) → ltb 0 (sum_below 16 (element ws)) ≡ t → split a 16 (element ws) k < 2 ^ 63
       go true q =
@@ -112,8 +113,11 @@ module _ {a n : ℕ} (ws : List ℕ) {r : List ℕ} (amount : n ≡ a) (sixteen 
           let none : sum_below 16 (element ws) ≡ 0 = omega (arith, ltb-false 0 (sum_below 16 (element ws)) q) in
           omega (arith, no_weights a 16 (element ws) k none)
 
-  pub party_share : PartyShare a ws r k
-  party_share =
-      let is : element r k ≡ split a 16 (element ws) k =
-      ap (λ (l : List ℕ). element l k) party_shares ∙ element_below 16 (split a 16 (element ws)) k 0 h in
-      record { is = is; fits = rw is share_fits }
+  pub shares_mapped : {F B : Type 0} {g : Mut F (ℕ × Unit {0}) B} (P : F → Type 0) (put : ℕ → B)
+      → ((f : F) (share : ℕ) (y : B) (q : F) → share < 2 ^ 63 → P f → Called g f (share, tt) y q → (y ≡ put share) × P q)
+      → {f : F} {ys : List B} → P f → IsMapOf g f r ys 16 → ys ≡ list_below 16 (λ p. put (split a 16 (element ws) p))
+  shares_mapped P put call =
+      map-is P r 0 _
+      (λ f k y q b held called.
+      let is = party_share k b in
+      let made = call f (element r k) y q (rw is (share_fits k b)) held called in (made.0 ∙ ap put is, made.1))

@@ -1,6 +1,6 @@
 -- Laws of lists by their elements, and of a loop that fills an array from its start.
 use Rattle.std.proofs.Common.{◌≡◌, refl, sym, ap, ◌∙◌, List, [], ◌∷◌, ◌++◌, Bool, true, false, cond, ℕ, zero, suc, ◌+◌, ◌≤◌, ◌<◌, not-suc-le-zero}
-use Rattle.std.proofs.Common.{add-zero, add-one, arith, ltb, eqb, length, get_or, set, take, length-append, length-set, take-suc-set, take_all}
+use Rattle.std.proofs.Common.{add-zero, add-one, arith, ltb, eqb, length, get_or, set, take, length-append, length-set, take-suc-set}
 use Rattle.std.proofs.Common.{get_or-append-add, get_or-set_same, get_or-set_other, ltb-true, ltb-false, eqb-true}
 use lib.ListN.{get_or-append, get_or-eq_default}
 use borrow.Author.Tests.{eqb-false}
@@ -57,9 +57,6 @@ module _ {A : Type 0} where
           long = length-set out i v ∙ h.long;
           made = rw (add-one i, take-suc-set out i v (omega (arith, h.long)), h.made, e);
         }
-
-    pub filled_all : {i : ℕ} → Filled n f out i → n ≤ i → out ≡ list_below n f
-    filled_all {i} h b = let e : i ≡ n = omega (arith, h.inside) in sym (take_all i out (omega (arith, h.long))) ∙ h.made ∙ rw e
 
 pub sum_filled : (f : ℕ → ℕ) {l : List ℕ} → l ≡ list_below 16 f → sum_below 16 (element l) ≡ sum_below 16 f
 sum_filled f e = rw e (sum_same 16 (element (list_below 16 f)) f (λ k h. element_below 16 f k 0 h))

@@ -1,13 +1,9 @@
 -- What a test that passed says: of its parts, of a range, and of all numbers below n by one test that antt computes.
-use Rattle.std.proofs.Common.{◌≡◌, refl, sym, ◌∙◌, Bool, true, false, ◌&&◌, ◌||◌, cond, ◌⊎◌, inl, inr, ◌+◌, ◌-◌, ℕ, zero, suc, ◌≤◌, ◌<◌}
-use Rattle.std.proofs.Common.{not-suc-le-zero, arith, leb, eqb, ltb, eqb-true, leb-true, le-leb, ne_eqb, lt-ltb, le-ltb, eq-eqb, leb-false}
+use Rattle.std.proofs.Common.{◌≡◌, refl, sym, ◌∙◌, Bool, true, false, ◌&&◌, cond, ℕ, zero, suc, ◌≤◌, ◌<◌}
+use Rattle.std.proofs.Common.{not-suc-le-zero, arith, leb, eqb, ltb, eqb-true, leb-true, le-leb, ne_eqb, lt-ltb, eq-eqb}
 use mathlib.Core.Bool.{and-eq-true_iff}
-use borrow.Author.Tests.{eqb-false, lt-leb}
+use borrow.Author.Tests.{eqb-false}
 use Rattle.numbers.specs.Range.{within}
-
-pub or_cases : (a b : Bool) → (a || b) ≡ true → (a ≡ true) ⊎ (b ≡ true)
-or_cases true b e = inl refl
-or_cases false b e = inr e
 
 pub within_from : (first last x : ℕ) → within first last x ≡ true → first ≤ x
 unfolding within
@@ -61,18 +57,8 @@ pub at_most_and : {a b : ℕ} {t : Bool} → (leb a b && t) ≡ true → (a ≤ 
 at_most_and {a} {b} q = let (le, rest) = both_true q in (leb-true a b le, rest)
 
 -- a test of numbers that calls gave, told of their definitions
-module _ {x y a b : ℕ} (p : x ≡ a) (q : y ≡ b) where
-  pub below_of : x < y → ltb a b ≡ true
-  below_of h = rw (sym p, sym q) (lt-ltb x y h)
-
-  pub not_below_of : y ≤ x → ltb a b ≡ false
-  not_below_of h = rw (sym p, sym q) (le-ltb x y h)
-
-  pub at_most_of : x ≤ y → leb a b ≡ true
-  at_most_of h = rw (sym p, sym q) (le-leb x y h)
-
-  pub not_at_most_of : y < x → leb a b ≡ false
-  not_at_most_of h = rw (sym p, sym q) (lt-leb x y h)
+pub below_of : {x y a b : ℕ} → x ≡ a → y ≡ b → x < y → ltb a b ≡ true
+below_of p q h = rw (sym p, sym q) (lt-ltb _ _ h)
 
 -- a test of equal numbers, either way round
 pub flipped : (m n : ℕ) → eqb m n ≡ eqb n m
@@ -81,18 +67,3 @@ flipped m n = go (eqb m n) refl
     go : (t : Bool) → eqb m n ≡ t → t ≡ eqb n m
     go true q = sym (eq-eqb n m (sym (eqb-true m n q)))
     go false q = sym (ne_eqb n m (λ e. eqb-false m n q (sym e)))
-
--- a + b as a bound for a: what is tested is what is asked
-pub fits_less : (a b n : ℕ) → b ≤ n → leb a (n - b) ≡ leb (a + b) n
-fits_less a b n h = go (leb (a + b) n) refl
-  where
-    go : (t : Bool) → leb (a + b) n ≡ t → leb a (n - b) ≡ t
-    go true q = le-leb a (n - b) (omega (arith, leb-true (a + b) n q))
-    go false q = lt-leb a (n - b) (omega (arith, leb-false (a + b) n q))
-
-pub fits_below : (a b n : ℕ) → b ≤ n → leb a (n - b) ≡ ltb (a + b) (suc n)
-fits_below a b n h = fits_less a b n h ∙ go (leb (a + b) n) refl
-  where
-    go : (t : Bool) → leb (a + b) n ≡ t → t ≡ ltb (a + b) (suc n)
-    go true q = sym (lt-ltb (a + b) (suc n) (omega (arith, leb-true (a + b) n q)))
-    go false q = sym (le-ltb (a + b) (suc n) (omega (arith, leb-false (a + b) n q)))

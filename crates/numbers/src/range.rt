@@ -7,5 +7,5 @@ ghost use Rattle.numbers.specs.Range.{within};
 pub fn within(first: u64, last: u64, x: u64) -> bool
     ensures { result ≡ within first last x }
 {
-    first <= x && x <= last
+    (first..=last).contains(&x)
 }
