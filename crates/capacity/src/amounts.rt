@@ -27,6 +27,7 @@ impl UnforcedWatts {
         self.0.unsigned_abs()
     }
 
+    // `as`, since `From` does not narrow and `TryFrom` would have an error to answer: by the clause nothing is lost.
     pub(crate) fn new(watts: u64) -> Self
         requires { watts < 2 ^ 63 }
         ensures { result ≡ unforced_watts (pos watts) }

@@ -14,7 +14,8 @@ pub struct Rating {
     pub eford: u32,
     pub eford5: u32,
     pub efordyear: u32,
-    // A number, since a record states any byte: to refuse another than 0, 1 and 2 is the task of row 6.
+    // A number, since a record states any byte: to refuse another than 0, 1 and 2 is the task of row 6. No enum, as the kinds of hour
+    // have: document 01 gives the classes no names, only their quarters.
     pub class: u32,
 }
 

@@ -37,7 +37,7 @@ impl InstalledWatts {
     }
 }
 
-// Of the class, a number as `Rating` has it.
+// Of the class, a number as `Rating` has it: what it comes to is all that is known of a class.
 #[tactic(auto, unfolding(crate::specs::Shortfall::quarters))]
 fn quarters(class: u32) -> u64
     ensures { (result ≡ quarters class) × (result ≤ 4) }
