@@ -68,7 +68,7 @@ pub fn no_nets() -> [UnforcedWatts; 16]
     [UnforcedWatts(0); 16]
 }
 
-// The nets of an area with one unit's shares more. By party as `lines` of money, and no twin: two quantities, each with its rule.
+// The nets of an area with one unit's shares more. No twin of `lines` of money: two quantities.
 pub fn add_shares(nets: [UnforcedWatts; 16], shares: [UnforcedWatts; 16]) -> [UnforcedWatts; 16]
     ensures { result ≡ nets_answer nets shares }
 {

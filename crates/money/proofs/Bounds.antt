@@ -1,5 +1,5 @@
 -- What an area's facts in range have, and why 64 bits are enough for its money.
-use Rattle.std.proofs.Common.{min, ◌-◌, ◌/◌, ◌≡◌, true, ℕ, zero, suc, ◌+◌, ◌*◌, ◌^◌, ◌≤◌, ◌<◌, zero-le, le_trans, add-mul, mul-le-mul, arith, ℤ, nat_abs, ◌-ℤ◌}
+use Rattle.std.proofs.Common.{min, ◌-◌, ◌/◌, ◌≡◌, sym, true, ℕ, zero, suc, ◌+◌, ◌*◌, ◌^◌, ◌≤◌, ◌<◌, zero-le, le_trans, add-mul, mul-le-mul, arith, ℤ, nat_abs, ◌-ℤ◌}
 use Rattle.std.proofs.Common.{leb-true}
 use native.Mathlib.Nat.{div-le_of_le-mul}
 use Rattle.numbers.specs.Sum.{sum_below}
@@ -9,7 +9,9 @@ use Rattle.numbers.proofs.Sums.{sum_term}
 use Rattle.numbers.proofs.Sizes.{difference_size, less_size}
 use Rattle.numbers.proofs.Splits.{shares_at_most}
 use Rattle.numbers.proofs.Tests.{at_most_and}
+use Rattle.capacity.specs.Quantities.{watts_of}
 use Rattle.capacity.specs.Shares.{net_most}
+use Rattle.money.specs.declared.area.Area.{Area}
 use Rattle.money.specs.AreaMoney.{priced, charge, ceiling, charges, ceilings, credit, left, load_share, due, obligations_most, area_in_range, due_most}
 use Rattle.money.specs.AreaMoney.{watts_in_range}
 use Rattle.money.proofs.Balance.{credits_add_up}
@@ -103,13 +105,26 @@ due_bound N price days o p h q =
 pub line_bound : (d earlier : ℤ) → nat_abs d ≤ due_most → nat_abs earlier ≤ due_most → nat_abs (d -ℤ earlier) ≤ 5856000000
 line_bound d earlier h k = omega (arith, less_size d earlier)
 
-pub record PricedFits (watts price days : ℕ) : Type 0 where
+-- what the code reckons of a net's watts: the products fit, and the cents are what the definition says
+pub record NetPriced (watts price days amount : ℕ) : Type 0 where
   pub once : watts * price ≤ 8000000000000
   pub whole : watts * price * days ≤ 2928000000000000
+  pub kept : min (watts * price * days / 1000000) (2 ^ 63 - 1) ≡ amount
 
-pub priced_fits : {watts price days : ℕ} → watts ≤ net_most → price ≤ 50000 → days ≤ 366 → PricedFits watts price days
-priced_fits w p d = record { once = mul-le-mul {n₂ = net_most} {m₂ = 50000} w p; whole = priced_bound _ _ _ w p d }
-
-pub priced_kept : {watts price days : ℕ} → PricedFits watts price days → min (watts * price * days / 1000000) (2 ^ 63 - 1) ≡ priced watts price days
+-- of the watts x of sixteen parties on one side of zero
+net_priced : (x : ℕ → ℕ) {watts price days p : ℕ} → sum_below 16 x ≤ net_most → price ≤ 50000 → days ≤ 366 → p < 16 → watts ≡ x p
+    → NetPriced watts price days (priced (x p) price days)
 unfolding priced
-priced_kept fits = omega (arith, fits.whole)
+net_priced x {watts} {price} {days} {p} most hp hd h e =
+    let few : watts ≤ net_most = omega (arith, sum_term p 16 x h) in
+    let whole = priced_bound watts price days few hp hd in
+    record { once = mul-le-mul {n₂ = net_most} {m₂ = 50000} few hp; whole = whole; kept = rw (sym e) (omega arith) }
+
+module _ (a : Area) {p watts : ℕ} (h : p < 16) where
+  pub charge_priced : watts ≡ above (watts_of a.nets p) → NetPriced watts a.price a.days (charge (watts_of a.nets) a.price a.days p)
+  unfolding charge
+  charge_priced = let r = area_range _ _ _ _ a.in_range in net_priced _ r.shortfalls_to r.price_to r.days_to h
+
+  pub ceiling_priced : watts ≡ below (watts_of a.nets p) → NetPriced watts a.price a.days (ceiling (watts_of a.nets) a.price a.days p)
+  unfolding ceiling
+  ceiling_priced = let r = area_range _ _ _ _ a.in_range in net_priced _ r.excesses_to r.price_to r.days_to h

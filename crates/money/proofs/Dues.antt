@@ -1,5 +1,5 @@
 -- From nets to dues, list by list: what each step of an area's money holds, by the definitions.
-use Rattle.std.proofs.Common.{min, ◌≤◌, ◌≡◌, refl, ap, ◌∙◌, Bool, true, false, cond, ◌&&◌, List, ℕ, ◌+◌, ◌-◌, ◌^◌, ◌<◌, arith, ℤ, pos, ltb, eqb}
+use Rattle.std.proofs.Common.{min, ◌≤◌, ◌≡◌, refl, sym, Ok, Err, ap, ◌∙◌, Bool, true, false, cond, ◌&&◌, List, ℕ, ◌+◌, ◌-◌, ◌^◌, ◌<◌, arith, ℤ, pos, ltb, eqb}
 use lib.IntN.{sub_ℕ}
 use Rattle.numbers.specs.Lists.{list_below}
 use Rattle.numbers.specs.Sum.{sum_below}
@@ -12,6 +12,7 @@ use Rattle.numbers.proofs.Splits.{split_same, shares_at_most}
 use Rattle.money.specs.Quantities.{money, cents, cents_of}
 use Rattle.money.specs.declared.Cents.{Cents}
 use Rattle.money.specs.AreaMoney.{due_most, charge, ceiling, charges, ceilings, credit, left, load_share, due, is_undistributed, area_in_range}
+use Rattle.money.specs.AreaMoney.{each_due, settled}
 use Rattle.money.proofs.Balance.{credits_add_up}
 use Rattle.money.proofs.Bounds.{charges_bound, ceilings_bound}
 
@@ -54,6 +55,12 @@ module _ (N : ℕ → ℤ) (price days : ℕ) where
     pub left_is : l ≡ cents (pos (left N price days))
 
   module _ (o : ℕ → ℕ) where
+    -- what is left, the credits and the load shares are
+    pub record Received (l : Cents) (cs ls : List Cents) : Type 0 where
+      pub left_is : l ≡ cents (pos (left N price days))
+      pub credits_are : cs ≡ money (credit N price days)
+      pub load_shares_are : ls ≡ money (load_share N price days o)
+
     pub reckoned : {hs ms : List Cents} {r m l : Cents} → area_in_range N price days o ≡ true
         → hs ≡ money (charge N price days) → ms ≡ money (ceiling N price days)
         → r ≡ cents (pos (min (sum_below 16 (λ p. above (cents_of hs p))) (2 ^ 63 - 1)))
@@ -70,21 +77,20 @@ module _ (N : ℕ → ℤ) (price days : ℕ) where
     unfolding above load_share
     loads_filled l e = e ∙ rw l
 
-    pub undistributed_is : {l : Cents} {t : Bool} → l ≡ cents (pos (left N price days))
-        → t ≡ (ltb 0 (above l.0) && eqb (sum_below 16 o) 0) → t ≡ is_undistributed N price days o
-    unfolding above is_undistributed
-    undistributed_is l e = e ∙ rw l
-
-    pub dues_filled : {cs ls hs ds : List Cents} → cs ≡ money (credit N price days) → ls ≡ money (load_share N price days o) → hs ≡ money (charge N price days)
-        → ds ≡ list_below 16 (λ p. cents (sub_ℕ (above (cents_of cs p) + above (cents_of ls p)) (above (cents_of hs p))))
-        → ds ≡ list_below 16 (λ p. cents (due N price days o p))
-    unfolding due
-    dues_filled cs ls hs e =
-        e ∙ list_same 16 _ _ (λ p h. rw (amount_at _ cs p h, amount_at _ ls p h, amount_at _ hs p h))
-
-    pub paid_fits : {cs ls : List Cents} → area_in_range N price days o ≡ true → cs ≡ money (credit N price days) → ls ≡ money (load_share N price days o)
+    pub paid_fits : {l : Cents} {cs ls : List Cents} → area_in_range N price days o ≡ true → Received l cs ls
         → sum_below 16 (λ p. above (cents_of cs p)) + sum_below 16 (λ p. above (cents_of ls p)) < 2 ^ 63
     unfolding load_share left
-    paid_fits q cs ls =
-        rw (amounts_sum _ cs, amounts_sum _ ls)
+    paid_fits q r =
+        rw (amounts_sum _ r.credits_are, amounts_sum _ r.load_shares_are)
         (omega (arith, credits_add_up N price days, shares_at_most (left N price days) 16 o, charges_bound N price days o q))
+
+    -- what is returned, whichever way the test goes
+    pub settled_is : {l : Cents} {cs ls hs ds : List Cents} {t u : Bool} → Received l cs ls → hs ≡ money (charge N price days)
+        → ds ≡ list_below 16 (λ p. cents (sub_ℕ (above (cents_of cs p) + above (cents_of ls p)) (above (cents_of hs p))))
+        → t ≡ (ltb 0 (above l.0) && eqb (sum_below 16 o) 0) → t ≡ u → cond u (Err (record { dues = ds })) (Ok ds) ≡ settled N price days o
+    unfolding above is_undistributed due settled
+    settled_is {ds = ds} {u = u} r hs made test taken =
+        let undistributed : is_undistributed N price days o ≡ u = rw r.left_is at (sym test ∙ taken) in
+        let dues : ds ≡ each_due N price days o =
+        made ∙ list_same 16 _ _ (λ p h. rw (amount_at _ r.credits_are p h, amount_at _ r.load_shares_are p h, amount_at _ hs p h)) in
+        simp (undistributed, dues)

@@ -6,9 +6,8 @@ ghost use Rattle.numbers.specs.Lists.{list_below, element};
 ghost use Rattle.numbers.specs.Signed.{above};
 ghost use Rattle.numbers.specs.Split.{split};
 ghost use Rattle.capacity.specs.Quantities.{watts_of};
-ghost use Rattle.capacity.specs.Shares.{net_most};
 ghost use Rattle.money.specs.Quantities.{cents, cents_of, money};
-ghost use Rattle.money.specs.AreaMoney.{priced, charge, ceiling, watts_in_range, area_in_range, settled, money_answer};
+ghost use Rattle.money.specs.AreaMoney.{charge, ceiling, watts_in_range, area_in_range, settled, money_answer};
 
 use crate::Cents;
 use capacity::UnforcedWatts;
@@ -118,26 +117,32 @@ struct Area {
 }
 
 impl Area {
-    // Cents for the watts of a net: for a shortfall its charge, for an excess its ceiling.
-    fn priced(self, watts: u64) -> Cents
-        requires { watts ≤ net_most }
-        ensures { result ≡ cents (pos (priced watts self.price self.days)) }
+    // C of a party: its shortfall, priced.
+    fn charge(self, p: usize) -> Cents
+        requires { p < 16 }
+        ensures { result ≡ cents (pos (charge (watts_of self.nets) self.price self.days p)) }
     {
-        Cents::new(watts * self.price * self.days / MEGAWATT)
+        Cents::new(self.nets[p].above() * self.price * self.days / MEGAWATT)
     }
 
-    // C of each party.
+    // M of a party: its excess, priced.
+    fn ceiling(self, p: usize) -> Cents
+        requires { p < 16 }
+        ensures { result ≡ cents (pos (ceiling (watts_of self.nets) self.price self.days p)) }
+    {
+        Cents::new(self.nets[p].below() * self.price * self.days / MEGAWATT)
+    }
+
     fn charges(self) -> [Cents; 16]
         ensures { result ≡ money (charge (watts_of self.nets) self.price self.days) }
     {
-        array::from_fn(|p| self.priced(self.nets[p].above()))
+        array::from_fn(|p| self.charge(p))
     }
 
-    // M of each party. With C it shares a function of the watts, and a parameter for the side of zero would be no plainer.
     fn ceilings(self) -> [Cents; 16]
         ensures { result ≡ money (ceiling (watts_of self.nets) self.price self.days) }
     {
-        array::from_fn(|p| self.priced(self.nets[p].below()))
+        array::from_fn(|p| self.ceiling(p))
     }
 
     fn settled(self) -> Result<[Cents; 16], Undistributed>

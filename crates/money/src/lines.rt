@@ -26,7 +26,8 @@ impl Cents {
     }
 }
 
-// The sixteen lines of a post, from the dues and the sums of the parties' earlier lines in the area.
+// The sixteen lines of a post, from the dues and the sums of the parties' earlier lines in the area. No twin of `add_shares` of
+// capacity: two quantities.
 pub fn lines(dues: [Cents; 16], earlier: [Cents; 16]) -> [Cents; 16]
     ensures { result ≡ lines_answer dues earlier }
 {

@@ -1,11 +1,9 @@
 -- Arrays that the library makes by the calls of a closure, told by their elements: what the closure captures is as P says at each
 -- call, and call number k gives h k.
 use Rattle.std.proofs.Common.{◌≡◌, ◌∙◌, refl, sym, ap, subst, List, ℕ, zero, suc, ◌+◌, ◌<◌, get_or, not-suc-le-zero, arith, length}
-use Rattle.std.specs.Array.{index_steps, IsFromFnResult, IsFromFnResultFrom, IsMapOf, MapsFrom}
+use Rattle.std.specs.Array.{IsFromFnResult, IsFromFnResultFrom, IsMapOf, MapsFrom}
 use Rattle.std.proofs.lemmas.List.{nil_from_length}
 use Rattle.std.proofs.lemmas.List.FromFn.{fill_by_all}
-use Rattle.std.specs.Iterator.{CallableAtEachTurn}
-use Rattle.std.proofs.lemmas.Fn.{serves_by}
 use Rattle.std.specs.Fn.{Mut, Called}
 use Rattle.numbers.specs.Lists.{list_below}
 use Rattle.numbers.proofs.Lists.{list_below-is}
@@ -59,10 +57,3 @@ module _ {F A B : Type 0} {g : Mut F (A × Unit {0}) B} {n : ℕ} (P : F → Typ
 
   pub map-is : {f : F} {ys : List B} → P f → IsMapOf g f xs ys n → ys ≡ list_below n h
   map-is p made = first_mapped n refl made.each p made.long
-
--- the closure of an `array::from_fn` may be called at each index
-pub from_fn-callable : {F : Type 0} {R : F → ℕ → F → Type 0} {Q : F → ℕ → Type 0} {n : ℕ} (P : F → Type 0) → ((f : F) (k : ℕ) (q : F) → P f → R f k q → P q)
-    → ((f : F) (k : ℕ) → k < n → P f → Q f k) → {f : F} → P f → CallableAtEachTurn (index_steps n) R Q 0 f
-from_fn-callable {R = R} {Q = Q} {n = n} P keeps may {f} p =
-    serves_by R (λ xs q. P q) (λ xs q x v. keeps q x v) (index_steps n) Q 0 f p
-    (λ xs t q x u yields step held. may q x (omega (arith, step.0, step.1)) held)
