@@ -1,14 +1,11 @@
 -- What the frame of a string says of its length.
-use Rattle.std.proofs.Common.{◌≡◌, refl, sym, ◌∙◌, Bool, true, false, cond, not, ◌||◌, true≢false, List, ℕ, ◌+◌, arith, eqb, ltb, length, eq-eqb, ◌≢◌, Ok, Err}
-use Rattle.std.proofs.Common.{ne_eqb, eqb-true}
+use Rattle.std.proofs.Common.{◌≡◌, refl, sym, ◌∙◌, Bool, true, false, cond, not, ◌||◌, true≢false, List, ℕ, ◌+◌, arith, eqb, ltb, length, Err}
+use Rattle.std.proofs.Common.{eqb-true}
 use borrow.Author.Tests.{eqb-false, not-false}
 use Rattle.records.specs.declared.format.HourRecord.{HourRecord}
-use Rattle.records.specs.declared.format.Fault.TheVariants.{Broken, WrongLength}
-use Rattle.records.specs.declared.format.Record.{Record}
-use Rattle.records.specs.declared.format.Record.TheVariants.{Hour}
-use Rattle.records.specs.Format.{Format, bytes_of, values_of, hour_format}
+use Rattle.records.specs.declared.format.Fault.TheVariants.{Broken}
 use Rattle.records.specs.Decoded.{tag_of, length_of, is_broken, of_length, framed, decoded}
-use Rattle.records.specs.Kinds.{Decoded, hour_from, of_hour}
+use Rattle.records.specs.Kinds.{Decoded, of_hour}
 
 neither : (a b : Bool) → (a || b) ≡ false → (a ≡ false) × (b ≡ false)
 neither true b q = absurd (true≢false q)
@@ -22,21 +19,6 @@ whole s q =
     (not-false (eqb (length s) (3 + length_of s))
     (neither (ltb 32 (length_of s)) (not (eqb (length s) (3 + length_of s)))
     (neither (ltb (length s) 3) (ltb 32 (length_of s) || not (eqb (length s) (3 + length_of s))) q).1).1)
-
--- row 3, of a string that row 1 does not fit
-module _ (f : Format) (s : List ℕ) (made : List ℕ → Record) (framed : is_broken s ≡ false) where
-  pub sized : length s ≡ bytes_of f → of_length f s made ≡ Ok (made (values_of f s))
-  unfolding of_length
-  sized e = rw (eq-eqb (length_of s) f.size (omega (arith, whole s framed)))
-
-  pub missized : length s ≢ bytes_of f → of_length f s made ≡ Err WrongLength
-  unfolding of_length
-  missized ne = rw (ne_eqb (length_of s) f.size (λ e. ne (omega (arith, whole s framed))))
-
--- An Hour record by its frame: twelve bytes, tag 5, and a stated length of 9.
-pub hour_framed : (s : List ℕ) → length s ≡ 12 → tag_of s ≡ 5 → length_of s ≡ 9 → decoded s ≡ Ok (Hour (hour_from (values_of hour_format s)))
-unfolding decoded is_broken framed of_length
-hour_framed s bytes tag stated = simp (bytes, tag, stated)
 
 -- whatever is made of an Hour record, and `other` of all the rest
 module _ {A : Type 0} (other : A) (given : HourRecord → A) where

@@ -1,15 +1,12 @@
 -- A record of a known tag is what its numbers make.
-use Rattle.std.proofs.Common.{◌≡◌, refl, ap, ◌∙◌, Bool, true, false, cond, List, [], ◌∷◌, map, not, subst, ℕ, ◌+◌, ◌-◌, ◌<◌, Ok, Err, arith, T, eqb, ltb, eqb-true, ltb-true, ne_eqb}
+use Rattle.std.proofs.Common.{◌≡◌, refl, ap, ◌∙◌, Bool, true, false, cond, List, [], ◌∷◌, map, not, subst, ℕ, ◌<◌, Ok, Err, arith, T, eqb, ltb, eqb-true, ltb-true, ne_eqb}
 use mir.Val.{has_key}
 use types.Run.{OneOf, miss}
-use denote.Enum.Declared.{tag_of}
 use Rattle.numbers.specs.Lists.{element}
 use Rattle.records.specs.declared.format.Fault.TheVariants.{Broken}
-use Rattle.records.specs.declared.format.Record.{Record}
 use Rattle.records.specs.declared.format.Record.TheVariants.{Year, Area, Unit, Commitment, Hour, Load, Post}
 use Rattle.records.specs.Format.{Format, formats}
 use Rattle.records.specs.Kinds.{Decoded, tag_of_record, numbers_of, area_from, unit_from, commitment_from, hour_from, load_from, is_of}
-use Rattle.records.specs.contracts.format.Record.{the_type}
 
 abbrev pub made : ℕ → List ℕ → Decoded
 made t l =
@@ -41,28 +38,17 @@ is_made f r listed q =
     is_true true h = refl
     is_true false h = absurd h
 
--- a record whose variant is of none of some kinds before it
-tag_is : (r : Record) → tag_of the_type r + 1 ≡ tag_of_record (Ok r)
-tag_is (Year y) = refl
-tag_is (Area a) = refl
-tag_is (Unit u) = refl
-tag_is (Commitment c) = refl
-tag_is (Hour h) = refl
-tag_is (Load l) = refl
-tag_is (Post p) = refl
-
--- the variants that are of none of these formats
+-- the tags of what is of none of these formats: of other formats, and 0 of what the frame refuses
 abbrev pub others : List Format → List ℕ
-others fs = without (map (λ (f : Format). f.tag - 1) fs) (map (λ (f : Format). f.tag - 1) formats)
+others fs = without (map (λ (f : Format). f.tag) fs) (0 ∷ map (λ (f : Format). f.tag) formats)
   where
     without : List ℕ → List ℕ → List ℕ
     without ks [] = []
     without ks (t ∷ ts) = cond (has_key ks t) (without ks ts) (t ∷ without ks ts)
 
-pub another : (fs : List Format) (r : Record) → OneOf (others fs) (tag_of the_type r) → (f : Format) → T (not (has_key (others fs) (f.tag - 1)))
-    → is_of f (Ok r) ≡ false
-another fs r one f away =
-    ne_eqb (tag_of_record (Ok r)) f.tag (λ e. miss (others fs) (f.tag - 1) away (subst (OneOf (others fs)) (omega (arith, tag_is r, e)) one))
+pub another : (fs : List Format) (r : Decoded) → OneOf (others fs) (tag_of_record r) → (f : Format) → T (not (has_key (others fs) f.tag))
+    → is_of f r ≡ false
+another fs r one f away = ne_eqb (tag_of_record r) f.tag (λ e. miss (others fs) f.tag away (subst (OneOf (others fs)) e one))
 
 -- the last arm of a `match`: a record that no numbers of this format make is of another one
 pub of_another : (f : Format) (r : Decoded) → T (ltb 0 f.tag) → (r ≡ made f.tag (numbers_of r) → ⊥) → is_of f r ≡ false

@@ -1,5 +1,5 @@
 // From bytes to a record.
-#![tactic(auto, using(crate::proofs::Frames::sized, crate::proofs::Frames::missized), unfolding(crate::specs::Format::number_at, crate::specs::Decoded::is_broken, crate::specs::Decoded::framed, crate::specs::Decoded::decoded))]
+#![tactic(auto, unfolding(crate::specs::Format::number_at, crate::specs::Decoded::is_broken, crate::specs::Decoded::of_length, crate::specs::Decoded::framed, crate::specs::Decoded::decoded))]
 
 ghost use Rattle.std.specs.Prelude.{◌≡◌, ◌≢◌, false, ◌+◌, ◌≤◌, ◌<◌, length, MatchResult, Ok};
 ghost use Rattle.numbers.specs.Lists.{element};
@@ -17,7 +17,8 @@ use crate::format::{
 use capacity::InstalledWatts;
 use capacity::rating::Rating;
 
-// The number in the byte, the two bytes or the four bytes from a place on: three functions, as the library has one a width.
+// The number in the byte, the two bytes or the four bytes from a place on: three functions, as the library has one a width. The room
+// that each asks of the string from there on is a clause of each: a type for it would be longer.
 fn byte(s: &[u8], from: usize) -> u32
     requires { from < length s.now }
     ensures { (result ≡ number_at 1 s.now from) × (result < 256) }
@@ -84,7 +85,7 @@ impl<'a> Framed<'a> {
         }
     }
 
-    // Of each kind: the record, if the length is that kind's.
+    // Of each kind: the record, if the length is that kind's. `year` and `post` are no twins: their numbers are a pair and a byte.
     fn year(self) -> Result<Record, Fault>
         ensures { result ≡ of_length year_format self.entry.bytes.now (λ l. Year (element l 0)) }
     {
