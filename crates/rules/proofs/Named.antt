@@ -3,9 +3,7 @@ use Rattle.std.proofs.Common.{◌≡◌, refl, sym, ◌∙◌, Bool, true, false
 use borrow.Author.Tests.{eqb-false}
 use Rattle.numbers.specs.Range.{within}
 use Rattle.numbers.proofs.Tests.{within_from, within_to}
-use Rattle.records.specs.Kinds.{Decoded}
-use Rattle.records.specs.Format.{area_count, unit_count}
-use Rattle.rules.specs.Rules.{index, area_named, unit_named}
+use Rattle.rules.specs.Rules.{index}
 
 pub index_below : (most n : ℕ) → 0 < most → index most n < most
 unfolding index
@@ -14,9 +12,6 @@ index_below most n h = go (within 1 most n) refl
     go : (t : Bool) → within 1 most n ≡ t → cond t (n - 1) 0 < most
     go true q = omega (arith, within_from 1 most n q, within_to 1 most n q)
     go false q = h
-
-pub indexed : (most n : ℕ) {k : ℕ} → 0 < most → k ≡ index most n → (k ≡ index most n) × (k < most)
-indexed most n h e = (e, rw e (index_below most n h))
 
 -- the index of a number in range is the number less 1
 pub index_in_range : (most n : ℕ) → within 1 most n ≡ true → index most n ≡ n - 1
@@ -34,9 +29,3 @@ named_by most n k ok = go (eqb n (k + 1)) refl
 
 pub named_index : (most n k : ℕ) → within 1 most n ≡ true → eqb n (k + 1) ≡ true → index most n ≡ k
 named_index most n k ok q = sym (eqb-true k (index most n) (named_by most n k ok ∙ q))
-
-pub area_bounded : (r : Decoded) {n : ℕ} → n ≡ area_named r → (n ≡ area_named r) × (n < area_count)
-area_bounded r e = indexed area_count _ (omega arith) e
-
-pub unit_bounded : (r : Decoded) {n : ℕ} → n ≡ unit_named r → (n ≡ unit_named r) × (n < unit_count)
-unit_bounded r e = indexed unit_count _ (omega arith) e

@@ -9,7 +9,7 @@ ghost use Rattle.records.specs.Format.{rate_at, unit_format, fields_fit};
 ghost use Rattle.records.specs.Kinds.{rating_numbers};
 ghost use Rattle.rules.specs.Refusal.{numbers_fit, derating_fits, in_range};
 
-use crate::hour::{date_of, is_derated};
+use crate::hour::{HourKind, date_of, is_derated};
 use crate::indices::{AREAS, COMMITMENTS, PARTIES, UNITS};
 use calendar::delivery_year::delivery_days;
 use capacity::InstalledWatts;
@@ -34,6 +34,13 @@ fn is_rate(n: u32) -> bool
     ensures { result ≡ (rate_at 0).holds n }
 {
     within(0, 99_999, u64::from(n))
+}
+
+#[tactic(auto, unfolding(numbers::specs::Range::within))]
+fn is_kind(n: u32) -> bool
+    ensures { result ≡ within 0 5 n }
+{
+    HourKind::try_from(n).is_ok()
 }
 
 // The numbers of a Unit after its area. `capacity` has bounds of its own, which say what 64 bits rest on.
@@ -92,7 +99,7 @@ pub(crate) fn hour_fits(year: u32, h: HourRecord) -> bool
 {
     is_one_of::<UNITS>(h.unit)
         && within(1, 24, u64::from(h.hour))
-        && within(0, 5, u64::from(h.kind))
+        && is_kind(h.kind)
         && date_of(year, h).is_date()
         && derating_fits(h)
 }

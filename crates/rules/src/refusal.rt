@@ -34,6 +34,7 @@ pub enum Refusal {
 }
 
 impl Refusal {
+    // `as`, since an enum has no `From` to its number: that is 0 to 10, and nothing is lost.
     pub fn number(self) -> u32
         ensures { result ≡ row_number self }
     {
@@ -41,8 +42,8 @@ impl Refusal {
     }
 }
 
-// What the rows ask, of the area and the unit that a record names. Flags with values beside them, and no Option: a row that asks
-// a value comes after the one that asks the flag, and the book holds zeros till then.
+// What the rows ask, of the area and the unit that a record names. Flags with values beside them, and no Option: `asked_of` and
+// `refusal_of` speak of this struct field by field, and a row that asks a value comes after the one that asks the flag.
 #[derive(Clone, Copy)]
 pub struct Asked {
     // 0 before a year is entered.
@@ -54,7 +55,7 @@ pub struct Asked {
     pub installed: InstalledWatts,
     // The index of its last accepted hour; 0 where it has none.
     pub last: u64,
-    // Of a Post: whether money is left over and the area's obligations add up to 0.
+    // Of a Post: whether money is left over and the area's obligations add up to 0. No value is beside it.
     pub undistributed: bool,
 }
 
@@ -124,6 +125,7 @@ impl Asked {
         self.admit_fit(area_fits(r))
     }
 
+    // No twin of `admit_post`, which has the same shape: they ask different rows.
     fn admit_unit(self, r: UnitRecord) -> Result<(), Refusal>
         ensures { number_of result ≡ refusal_of self (Ok (Unit r)) }
     {
