@@ -45,11 +45,6 @@ pub record HoursLeft (first : Book) (s : List ℕ) (b : Book) (end : ℕ) (rest 
   pub rest_is : rest ≡ drop end s
   pub left : hours_of (length rest / hour_length) b s end ≡ hours_between first s 0 (length s)
 
-pub all_left : (b : Book) (s : List ℕ) {rest : List ℕ} → rest ≡ s → HoursLeft b s b 0 rest
-all_left b s {rest} e =
-    let same : length rest / hour_length ≡ (min (length s) (length s) - 0) / hour_length = omega (arith, ap length e) in
-    record { rest_is = e; left = ap (λ (k : ℕ). hours_of k b s 0) same }
-
 module _ {first b : Book} {s : List ℕ} {end : ℕ} {rest : List ℕ} (h : HoursLeft first s b end rest) where
   module _ (x more : List ℕ) (cut : rest ≡ x ++ more) (long : length x ≡ hour_length) where
     -- the record that is read, and what is left after it

@@ -23,8 +23,9 @@ pub struct Unit {
     last: u64,
 }
 
-// What has been entered, each at its number less 1. What is all zeros is not entered, as no record has the number 0. No Options:
-// the facts of the definitions have a value at every index, so that each read would put the zeros back.
+// What has been entered, each at its number less 1. What is all zeros is not entered, as no record has the number 0: `Asked::new`
+// reads it so, and a post passes it over, since it names no area and no unit. An Option would say no more than these zeros, which
+// the facts of the definitions have too.
 #[derive(Drop)]
 pub struct Book {
     // 0 before a year is entered.

@@ -77,13 +77,9 @@ impl Book {
         requires { area < area_count }
         ensures { answered result self.new ≡ post_answer self.old area }
     {
-        match self.area_settled(area) {
-            Ok(dues) => {
-                let lines = lines(dues, self.posted[area]);
-                self.posted[area] = dues;
-                Ok(lines)
-            }
-            Err(_) => Err(Refusal::Undistributed),
-        }
+        let dues = self.area_settled(area)?;
+        let lines = lines(dues, self.posted[area]);
+        self.posted[area] = dues;
+        Ok(lines)
     }
 }

@@ -13,6 +13,7 @@ use crate::ranges::{
     area_fits, commitment_fits, hour_fits, load_fits, post_fits, unit_fits, year_fits,
 };
 use capacity::InstalledWatts;
+use money::area::Undistributed;
 use records::format::{
     AreaRecord, CommitmentRecord, Fault, HourRecord, LoadRecord, Record, UnitRecord,
 };
@@ -69,6 +70,15 @@ impl From<Fault> for Refusal {
             Fault::UnknownTag => Refusal::UnknownTag,
             Fault::WrongLength => Refusal::WrongLength,
         }
+    }
+}
+
+// Row 11.
+impl From<Undistributed> for Refusal {
+    ghost from_gives = { λ _ row. row_number row ≡ 11 };
+
+    fn from(_: Undistributed) -> Self {
+        Refusal::Undistributed
     }
 }
 

@@ -1,12 +1,7 @@
-use Rattle.std.proofs.Common.{◌≡◌, ◌∙◌, arith, rules}
-use Rattle.std.specs.Slice.Iter.{chunks_exact_rest, chunks_exact_size}
-use Rattle.book.proofs.HourRuns.{all_left, goes_on, stops, ends}
+use Rattle.std.proofs.Common.{◌≡◌, ◌∙◌, arith}
+use Rattle.std.specs.Slice.Iter.{chunks_exact_size}
+use Rattle.book.proofs.HourRuns.{goes_on, stops, ends}
 use Rattle.book.proofs.Book.hours.Goals as goal
-
-pub loop-bytes-init : goal.loop-bytes-init
-loop-bytes-init c =
-    let whole : chunks_exact_rest c.into_iter-bytes-iterator.result ≡ c.args.s.now = search rules in
-    (search rules, tt, search rules, all_left c.args.self.now c.args.s.now whole)
 
 pub loop-bytes-preserved : goal.loop-bytes-preserved
 loop-bytes-preserved c =
