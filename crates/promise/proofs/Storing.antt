@@ -1,13 +1,15 @@
 -- Strings of a slice of bytes, and values stored one after another.
-use Rattle.std.proofs.Common.{◌≡◌, refl, sym, ap, ◌∙◌, Bool, true, false, List, [], ◌∷◌, ◌++◌, map, ℕ, suc, ◌+◌, ◌-◌, ◌≤◌, ◌<◌, ◌^◌, min}
+use Rattle.std.proofs.Common.{◌≡◌, refl, sym, ap, ◌∙◌, Bool, true, false, List, [], ◌∷◌, ◌++◌, map, ℕ, zero, suc, ◌+◌, ◌-◌, ◌≤◌, ◌<◌, min}
 use Rattle.std.proofs.Common.{add-one, arith, ℤ, pos, leb, length, get_or, take, drop, set, length-set, drop_of_length-le}
-use Rattle.std.proofs.Common.{drop-cons, w64, to_z, of_z, to_z-of_z, leb-true, leb-false}
+use Rattle.std.proofs.Common.{drop-cons, leb-true, leb-false}
 use native.Mathlib.Nat.{min-eq_left, min-eq_right}
 use mathlib.Core.List.{flat_map}
 use native.Mathlib.Numerals.{unary_clauses}
-use lib.Signed.{mag}
 use lib.ListN.{length-map, get_or-map}
 use lib.Seq.{set_out}
+use Rattle.std.proofs.lemmas.List.{take_min}
+use Rattle.numbers.specs.Lists.{list_below}
+use Rattle.numbers.proofs.Arrays.{listed}
 use Rattle.money.specs.declared.Cents.{Cents}
 use Rattle.money.specs.Quantities.{cents}
 use Rattle.book.specs.Books.{Book, empty_book}
@@ -61,31 +63,23 @@ module _ {A : Type 0} where
   stored_whole (x ∷ l) [] = refl
   stored_whole (x ∷ l) (v ∷ vs) = stored_tail v 0 l vs ∙ ap (λ (t : List A). v ∷ t) (stored_whole l vs)
 
-  -- one value of a list more is stored, and no more are left
-  stored_more : (l vs : List A) (k p : ℕ) (d : A) {v : A} → p < length vs → v ≡ get_or vs p d
-      → stored_from (k + 1) (set l k v) (drop (p + 1) vs) ≡ stored_from k l (drop p vs)
-  unfolding stored_from
-  stored_more l vs k p d h e = rw (drop-cons vs p d h, add-one k, add-one p, e)
+  -- as many of the values as there is room for, in the place of as many of the list from a place on
+  pub stored_part : (k : ℕ) (l vs : List A) {n : ℕ} → k ≤ length l → n ≡ min (length l) (k + length vs) - k
+      → take k l ++ (take n vs ++ drop n (drop k l)) ≡ stored_from k l vs
+  stored_part zero l vs {n} h e =
+      let fewer : n ≡ min (length l) (length vs) = omega arith in
+      let fewer' : n ≡ min (length vs) (length l) = omega arith in
+      let values : take n vs ≡ take (length l) vs = rw fewer (take_min (length l) vs) in
+      let ends : length l ≤ length vs → drop (length vs) l ≡ drop (length l) l =
+      λ past. drop_of_length-le l past ∙ sym (drop_of_length-le l (omega arith)) in
+      let rest : drop n l ≡ drop (length vs) l = rw fewer' (moved_back (λ j. drop j l) (length l) (length vs) ends) in
+      rw (values, rest) (sym (stored_whole l vs))
+  stored_part (suc k) [] vs h e = absurd (omega arith)
+  stored_part (suc k) (x ∷ l) vs h e = ap (λ (t : List A). x ∷ t) (stored_part k l vs (omega arith) (omega arith)) ∙ sym (stored_tail x k l vs)
 
-  stored_all : (l vs : List A) (k p : ℕ) → length vs ≤ p → stored_from k l (drop p vs) ≡ l
-  unfolding stored_from
-  stored_all l vs k p h = rw (drop_of_length-le vs h)
-
--- The loop of `put_lines`: what is left to store of the amounts.
-module _ (first : List ℤ) (at : ℕ) (cs : List Cents) (l : List ℤ) (k p : ℕ)
-    (left : stored_from k l (drop p (amounts_of cs)) ≡ stored_from at first (amounts_of cs)) where
-  pub lines_full : length l ≤ k → stored_from k l (drop (p + 1) (amounts_of cs)) ≡ stored_from at first (amounts_of cs)
-  lines_full h = stored_past k l (drop (p + 1) (amounts_of cs)) h ∙ sym (stored_past k l (drop p (amounts_of cs)) h) ∙ left
-
-  pub lines_all : length cs ≤ p → l ≡ stored_from at first (amounts_of cs)
-  lines_all h = sym (stored_all l (amounts_of cs) k p (rw length-map h)) ∙ left
-
-  pub lines_more : {v : ℤ} → p < length cs → v ≡ (get_or cs p (cents (pos 0))).0 → mag v < 2 ^ 63
-      → stored_from (k + 1) (set l k (to_z w64 (of_z w64 v))) (drop (p + 1) (amounts_of cs)) ≡ stored_from at first (amounts_of cs)
-  lines_more {v} h e fits =
-      let value : to_z w64 (of_z w64 v) ≡ get_or (amounts_of cs) p (pos 0) =
-      to_z-of_z {w = w64} (record { sfits = fits }) ∙ e ∙ sym (get_or-map (λ (c : Cents). c.0) cs p (cents (pos 0))) in
-      stored_more l (amounts_of cs) k p (pos 0) (rw length-map h) value ∙ left
+-- sixteen amounts by party, as an array's `map` gives them
+pub amounts_are : (cs : List Cents) → length cs ≡ 16 → list_below 16 (λ p. (get_or cs p (cents (pos 0))).0) ≡ amounts_of cs
+amounts_are cs long = sym (listed 16 _ (pos 0) (rw length-map long) (λ k b. get_or-map (λ (c : Cents). c.0) cs k (cents (pos 0))))
 
 -- one string more
 strings_more : (from : ℕ) (bytes ends : List ℕ) (i : ℕ) {end : ℕ} → i < length ends → end ≡ get_or ends i 0

@@ -29,13 +29,11 @@ fn number(answer: Result<[Cents; Book::PARTIES], Refusal>) -> u32
     }
 }
 
+#[tactic(auto, unfolding(numbers::specs::Lists::list_below))]
 fn amounts(answer: Result<[Cents; Book::PARTIES], Refusal>) -> [Cents; Book::PARTIES]
     ensures { result ≡ lines_given answer }
 {
-    match answer {
-        Ok(amounts) => amounts,
-        Err(_) => [Cents::zero(); Book::PARTIES],
-    }
+    answer.unwrap_or([Cents::zero(); Book::PARTIES])
 }
 
 // An index test: where `get_mut` gives nothing, no clause says that the slice stays as it was.
@@ -47,20 +45,16 @@ fn put_number(numbers: &mut [u32], i: usize, number: u32)
     }
 }
 
-// Answers the next place, which is never past the end. It is counted, since the lines may end before the amounts do.
+// As many of the amounts as there is room for. Answers the next place, which is never past the end.
 fn put_lines(lines: &mut [i64], at: usize, amounts: [Cents; Book::PARTIES]) -> usize
     requires { at ≤ length lines.old }
     ensures lines_after { lines.new ≡ stored_from at lines.old (map (λ c. c.0) amounts) }
     ensures value { result ≡ min (at + length amounts) (length lines.old) }
 {
-    let mut next = at;
-    for amount in amounts {
-        if next < lines.len() {
-            lines[next] = amount.amount();
-            next += 1;
-        }
-    }
-    next
+    let amounts = amounts.map(Cents::amount);
+    let end = lines.len().min(at + amounts.len());
+    lines[at..end].copy_from_slice(&amounts[..end - at]);
+    end
 }
 
 // The run that the promise speaks of. The strings stand end to end in bytes, and ends says where each of them ends. Their
