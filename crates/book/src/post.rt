@@ -29,7 +29,7 @@ fn parts(commitments: &[CommitmentRecord; Book::COMMITMENTS], u: usize) -> [u64;
     for c in commitments {
         if c.unit as usize == u + 1 {
             let p = index::<{ Book::PARTIES }>(c.party);
-            parts[p] += watt_days(c.watts as u64, c.first as u64, c.last as u64);
+            parts[p] += watt_days(u64::from(c.watts), u64::from(c.first), u64::from(c.last));
         }
     }
     parts
@@ -42,7 +42,7 @@ impl Book {
         requires { area < area_count }
         ensures { result ≡ list_below party_count (λ p. unforced_watts (net_in (facts_of_book self.now) area p)) }
     {
-        let days = delivery_days(self.year) as u64;
+        let days = u64::from(delivery_days(self.year));
         let mut nets = no_nets();
         for (k, u) in self.units.iter().enumerate() {
             let is_here = u.entry.area as usize == area + 1;
@@ -66,10 +66,10 @@ impl Book {
         requires { area < area_count }
         ensures { result ≡ settled_in (facts_of_book self.now) area }
     {
-        let days = delivery_days(self.year) as u64;
+        let days = u64::from(delivery_days(self.year));
         let nets = self.area_nets(area);
-        let obligations = std::array::from_fn(|p| self.obligations[area][p] as u64);
-        area_money(nets, self.areas[area].price as u64, days, obligations)
+        let obligations = std::array::from_fn(|p| u64::from(self.obligations[area][p]));
+        area_money(nets, u64::from(self.areas[area].price), days, obligations)
     }
 
     // The post of an area that is entered: row 11, or the lines and the posted sums.

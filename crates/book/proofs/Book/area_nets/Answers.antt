@@ -15,7 +15,7 @@ loop-k-preserved c =
     (elim c.if-is_here.branch [
       | then-is_here w ↦
           w.nets-is
-          ∙ nets_more b c.self.invariant _ _ (omega arith) known w.if-is_here.true w.parts.ensures c.delivery_days-days.ensures w.unit_shares-shares.ensures
+          ∙ nets_more b c.self.invariant _ _ (omega arith) known w.if-is_here.true w.parts.ensures (c.from-days.ensures ∙ c.delivery_days.ensures) w.unit_shares-shares.ensures
           w.add_shares-more.ensures
       | else-is_here w ↦ w.nets-is ∙ nets_same b c.self.invariant _ _ (omega arith) known w.if-is_here.false
     ])

@@ -1,4 +1,4 @@
-use Rattle.std.proofs.Common.{◌≡◌, List, [], ℕ, ◌<◌, get_or, rules}
+use Rattle.std.proofs.Common.{◌≡◌, ◌∙◌, List, [], ℕ, ◌<◌, get_or, rules}
 use Rattle.std.proofs.lemmas.List.FromFn.{fill_by_all}
 use Rattle.numbers.specs.Lists.{element, list_below}
 use Rattle.numbers.proofs.Lists.{list_below-is}
@@ -16,4 +16,4 @@ returns c =
     rw (list_below-is party_count (element row)) (fill_by_all (element row) _ party_count 0 made.long at) in
     rw (← c.self.view_is)
     (money_settled (seen c.self.inside) c.self.invariant c.args.area c.requires (rw (← c.self.view_is) at c.area_nets-nets.ensures) loads
-    c.delivery_days-days.ensures c.area_money.ensures)
+    (c.from-days.ensures ∙ c.delivery_days.ensures) (rw c.from.ensures at c.area_money.ensures))

@@ -11,12 +11,12 @@ loop-c-init c = parts_none
 
 pub overflow_add-parts : goal.overflow_add-parts
 overflow_add-parts c =
-    omega (arith, parts_small c.loop-c.invariant c.requires.0 (omega arith) _ (c.index-p.ensures.below (omega arith)), c.watt_days.ensures, answer_most (c.requires.0 c.loop-c.c-index))
+    omega (arith, parts_small c.loop-c.invariant c.requires.0 (omega arith) _ (c.index-p.ensures.below (omega arith)), rw (c.from.ensures, c.from-then-c-u.ensures, c.from-then-c-u-2.ensures) at c.watt_days.ensures, answer_most (c.requires.0 c.loop-c.c-index))
 
 pub loop-c-preserved : goal.loop-c-preserved
 loop-c-preserved c =
     elim c.if-c-u.branch [
-      | then-c-u w ↦ rw w.parts-is (parts_stored c.loop-c.invariant c.requires.0 (omega arith) w.if-c-u.true w.index-p.ensures.value (w.index-p.ensures.below (omega arith)) w.watt_days.ensures)
+      | then-c-u w ↦ rw w.parts-is (parts_stored c.loop-c.invariant c.requires.0 (omega arith) w.if-c-u.true w.index-p.ensures.value (w.index-p.ensures.below (omega arith)) (rw (w.from.ensures, w.from-then-c-u.ensures, w.from-then-c-u-2.ensures) at w.watt_days.ensures))
       | else-c-u w ↦ rw w.parts-is (parts_same c.loop-c.invariant (omega arith) w.if-c-u.false)
     ]
 
