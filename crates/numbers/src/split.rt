@@ -21,7 +21,7 @@ pub fn capped_sum(weights: &[u64]) -> u64
 fn has_shares(amount: u64, z: u64) -> bool
     ensures { result ≡ (ltb 0 amount && (ltb 0 z && ltb (amount * z) (2 ^ 63))) }
 {
-    0 < amount && 0 < z && amount <= i64::MAX as u64 / z
+    0 < amount && 0 < z && amount <= i64::MAX.unsigned_abs() / z
 }
 
 // Every place gets its share of an amount over weights of sum z.
