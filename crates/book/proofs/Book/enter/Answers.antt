@@ -5,13 +5,13 @@ use Rattle.records.specs.declared.format.Record.{Record}
 use Rattle.records.specs.Format.{post_format}
 use Rattle.records.specs.Kinds.{is_of}
 use Rattle.rules.specs.Rules.{area_named}
-use Rattle.book.specs.Books.{no_obligations}
+use Rattle.book.specs.Books.{Book, Sound, no_obligations}
 use Rattle.book.specs.Entered.{after}
 use Rattle.book.specs.Steps.{post_answer}
 use Rattle.book.specs.Seen.{seen}
 use Rattle.book.proofs.Answers.{faulty, returned, accepted, sound_after, posted}
 use Rattle.book.proofs.Book.enter.Goals as goal
-use Rattle.book.proofs.Book.enter.Goals.{in-Year, in-Area, in-Unit, in-Commitment, in-Hour, in-Load}
+use Rattle.book.proofs.Book.enter.Goals.{In_ok-admit, in-Year, in-Area, in-Unit, in-Commitment, in-Hour, in-Load}
 
 pub returns-in_err-r : goal.returns-in_err-r
 returns-in_err-r c = faulty c.args.self.now c.args.bytes.now _ c.from_residual.result c.in_err-r.ensures c.from_residual.ensures.1
@@ -54,36 +54,28 @@ returns c =
     rw (← c.self.view_is, c.zero.ensures) e
 
 -- what each arm stores is in range
-pub invariant_of-self : goal.invariant_of-self
-invariant_of-self c =
+stored_sound : (c : In_ok-admit) {b' : Book} → is_of post_format (Ok c.in_ok-r.r) ≡ false → b' ≡ after (seen c.self.inside) (Ok c.in_ok-r.r) → Sound b'
+stored_sound c =
     sound_after (seen c.self.inside) c.args.bytes.now c.in_ok-r.ensures c.area_named-i.ensures.0 c.unit_named-j.ensures.0 c.new-asked.ensures c.self.invariant
-    c.in_ok-admit.ensures (rw c.in-Year.is refl) (rw c.in-Year.is refl)
+    c.in_ok-admit.ensures
+
+pub invariant_of-self : goal.invariant_of-self
+invariant_of-self c = stored_sound (goal.at.invariant_of-self c).In_ok-admit (rw c.in-Year.is refl) (rw c.in-Year.is refl)
 
 pub invariant_of-self-in-Area : goal.invariant_of-self-in-Area
-invariant_of-self-in-Area c =
-    sound_after (seen c.self.inside) c.args.bytes.now c.in_ok-r.ensures c.area_named-i.ensures.0 c.unit_named-j.ensures.0 c.new-asked.ensures c.self.invariant
-    c.in_ok-admit.ensures (rw c.in-Area.is refl) (rw (c.area_named-i.ensures.0, c.in-Area.is))
+invariant_of-self-in-Area c = stored_sound (goal.at.invariant_of-self-in-Area c).In_ok-admit (rw c.in-Area.is refl) (rw (c.area_named-i.ensures.0, c.in-Area.is))
 
 pub invariant_of-self-in-Unit : goal.invariant_of-self-in-Unit
-invariant_of-self-in-Unit c =
-    sound_after (seen c.self.inside) c.args.bytes.now c.in_ok-r.ensures c.area_named-i.ensures.0 c.unit_named-j.ensures.0 c.new-asked.ensures c.self.invariant
-    c.in_ok-admit.ensures (rw c.in-Unit.is refl) (rw (c.new.ensures, c.unit_named-j.ensures.0, c.in-Unit.is))
+invariant_of-self-in-Unit c = stored_sound (goal.at.invariant_of-self-in-Unit c).In_ok-admit (rw c.in-Unit.is refl) (rw (c.new.ensures, c.unit_named-j.ensures.0, c.in-Unit.is))
 
 pub invariant_of-self-in-Commitment : goal.invariant_of-self-in-Commitment
-invariant_of-self-in-Commitment c =
-    sound_after (seen c.self.inside) c.args.bytes.now c.in_ok-r.ensures c.area_named-i.ensures.0 c.unit_named-j.ensures.0 c.new-asked.ensures c.self.invariant
-    c.in_ok-admit.ensures (rw c.in-Commitment.is refl) (rw (c.index-k.ensures.value, c.in-Commitment.is))
+invariant_of-self-in-Commitment c = stored_sound (goal.at.invariant_of-self-in-Commitment c).In_ok-admit (rw c.in-Commitment.is refl) (rw (c.index-k.ensures.value, c.in-Commitment.is))
 
 pub invariant_of-self-in-Hour : goal.invariant_of-self-in-Hour
-invariant_of-self-in-Hour c =
-    sound_after (seen c.self.inside) c.args.bytes.now c.in_ok-r.ensures c.area_named-i.ensures.0 c.unit_named-j.ensures.0 c.new-asked.ensures c.self.invariant
-    c.in_ok-admit.ensures (rw c.in-Hour.is refl) (rw (c.with_hour.ensures, c.unit_named-j.ensures.0, c.in-Hour.is))
+invariant_of-self-in-Hour c = stored_sound (goal.at.invariant_of-self-in-Hour c).In_ok-admit (rw c.in-Hour.is refl) (rw (c.with_hour.ensures, c.unit_named-j.ensures.0, c.in-Hour.is))
 
 pub invariant_of-self-in-Load : goal.invariant_of-self-in-Load
 invariant_of-self-in-Load c =
-    let b = seen c.self.inside in
-    let i = c.area_named-i.result in
-    let inside : i < length b.obligations = rw c.self.invariant.obligations.long c.area_named-i.ensures.1 in
-    sound_after (seen c.self.inside) c.args.bytes.now c.in_ok-r.ensures c.area_named-i.ensures.0 c.unit_named-j.ensures.0 c.new-asked.ensures c.self.invariant
-    c.in_ok-admit.ensures (rw c.in-Load.is refl)
-    (rw (get_or_default b.obligations i [] no_obligations inside, c.area_named-i.ensures.0, c.index-p.ensures.value, c.in-Load.is))
+    let inside : c.area_named-i.result < length c.self.inside.obligations = rw c.self.invariant.obligations.long c.area_named-i.ensures.1 in
+    stored_sound (goal.at.invariant_of-self-in-Load c).In_ok-admit (rw c.in-Load.is refl)
+    (rw (get_or_default c.self.inside.obligations c.area_named-i.result [] no_obligations inside, c.area_named-i.ensures.0, c.index-p.ensures.value, c.in-Load.is))
