@@ -1,5 +1,5 @@
 // A post: from the units and commitments of a book to an area's lines.
-ghost use Rattle.std.specs.Prelude.{◌≡◌, ℕ, ◌+◌, ◌≤◌, ◌<◌};
+ghost use Rattle.std.specs.Prelude.{◌≡◌, ◌+◌, ◌<◌};
 ghost use Rattle.numbers.specs.Lists.{list_below};
 ghost use Rattle.capacity.specs.Quantities.{unforced_watts};
 ghost use Rattle.records.specs.Format.{area_count, unit_count, party_count};
