@@ -26,11 +26,11 @@ fn byte(s: &[u8], from: usize) -> u32
     u32::from(s[from])
 }
 
-pub(crate) fn pair(s: &[u8], from: usize) -> u32
+pub(crate) fn pair(s: &[u8], from: usize) -> u16
     requires { from + 2 ≤ length s.now }
-    ensures { (result ≡ number_at 2 s.now from) × (result < 65536) }
+    ensures { result ≡ number_at 2 s.now from }
 {
-    u32::from(u16::from_be_bytes([s[from], s[from + 1]]))
+    u16::from_be_bytes([s[from], s[from + 1]])
 }
 
 fn quad(s: &[u8], from: usize) -> u32
@@ -43,13 +43,15 @@ fn quad(s: &[u8], from: usize) -> u32
 // A record's tag and length, and the most bytes of its value.
 pub(crate) const HEAD_BYTES: usize = 3;
 
-pub(crate) const LENGTH_MOST: u32 = 32;
+pub(crate) const LENGTH_MOST: u16 = 32;
 
 // Row 1.
 fn is_broken(s: &[u8]) -> bool
     ensures { result ≡ is_broken s.now }
 {
-    s.len() < HEAD_BYTES || LENGTH_MOST < pair(s, 1) || s.len() != HEAD_BYTES + pair(s, 1) as usize
+    s.len() < HEAD_BYTES
+        || LENGTH_MOST < pair(s, 1)
+        || s.len() != HEAD_BYTES + usize::from(pair(s, 1))
 }
 
 fn hour_fields(s: &[u8]) -> HourRecord
@@ -90,7 +92,7 @@ impl<'a> Framed<'a> {
         ensures { result ≡ of_length year_format self.entry.bytes.now (λ l. Year (element l 0)) }
     {
         self.has_length(YEAR_BYTES)?;
-        Ok(Record::Year(pair(self.bytes, 3)))
+        Ok(Record::Year(u32::from(pair(self.bytes, 3))))
     }
 
     fn area(self) -> Result<Record, Fault>
@@ -130,8 +132,8 @@ impl<'a> Framed<'a> {
             number: byte(s, 3),
             unit: byte(s, 4),
             party: byte(s, 5),
-            first: pair(s, 6),
-            last: pair(s, 8),
+            first: u32::from(pair(s, 6)),
+            last: u32::from(pair(s, 8)),
             watts: quad(s, 10),
         }))
     }
@@ -191,7 +193,7 @@ pub fn decode(s: &[u8]) -> Result<Record, Fault>
 // The tag of an Hour, and the length that it states.
 const HOUR_TAG: u32 = 5;
 
-const HOUR_LENGTH: u32 = 9;
+const HOUR_LENGTH: u16 = 9;
 
 // The Hour record that a string of bytes is, if it is one. `decode` alone, without the other kinds, which would slow a run of hours.
 pub fn hour_of(s: &[u8]) -> Option<HourRecord>

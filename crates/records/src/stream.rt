@@ -28,7 +28,7 @@ pub fn next_record(s: &[u8]) -> Next
     if LENGTH_MOST < stated {
         return Next::Broken;
     }
-    let end = HEAD_BYTES + stated as usize;
+    let end = HEAD_BYTES + usize::from(stated);
     if s.len() < end {
         Next::Partial
     } else {
