@@ -43,6 +43,7 @@ hour_left b s q = rw q (sym (and-false (of_hour false (λ h. true) (decoded s)))
 -- The loop of `hours`, where `rest` is not read yet: what is left to do there is what was to do at first.
 pub record HoursLeft (first : Book) (s : List ℕ) (b : Book) (end : ℕ) (rest : List ℕ) : Type 0 where
   pub rest_is : rest ≡ drop end s
+  pub long : end + length rest ≡ length s
   pub left : hours_of (length rest / hour_length) b s end ≡ hours_between first s 0 (length s)
 
 module _ {first b : Book} {s : List ℕ} {end : ℕ} {rest : List ℕ} (h : HoursLeft first s b end rest) where
@@ -57,13 +58,13 @@ module _ {first b : Book} {s : List ℕ} {end : ℕ} {rest : List ℕ} (h : Hour
     count_more : length rest / hour_length ≡ suc (length more / hour_length)
     count_more = rw cut (simp length-append (omega (arith, long)))
 
-    pub goes_on : {b' : Book} {taken : Bool} → taken ≡ is_accepted_hour b x → taken ≡ true → b' ≡ cond taken (entered b x).book b
-        → HoursLeft first s b' (end + hour_length) more
+    pub goes_on : {b' : Book} {taken : Bool} {next : ℕ} → next ≡ end + hour_length → taken ≡ is_accepted_hour b x → taken ≡ true
+        → b' ≡ cond taken (entered b x).book b → HoursLeft first s b' next more
     unfolding hours_of
-    goes_on {b'} {taken} is here e =
-        let one : hours_of (length rest / hour_length) b s end ≡ hours_of (length more / hour_length) b' s (end + hour_length)
-        = rw (e, count_more, read_is, sym is, here) in
-        record { rest_is = rest_more; left = sym one ∙ h.left }
+    goes_on {b'} {taken} {next} to is here e =
+        let one : hours_of (length rest / hour_length) b s end ≡ hours_of (length more / hour_length) b' s next
+        = rw (to, e, count_more, read_is, sym is, here) in
+        record { rest_is = rw to rest_more; long = omega (arith, h.long, simp length-append at (ap length cut)); left = sym one ∙ h.left }
 
     -- it stops at a record
     pub stops : {b' : Book} {taken : Bool} → taken ≡ is_accepted_hour b x → taken ≡ false → b' ≡ cond taken (entered b x).book b

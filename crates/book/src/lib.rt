@@ -128,18 +128,16 @@ impl Book {
     }
 
     // The Hour records at the start of a slice, entered one after another: up to the first record that is anything else or
-    // would be refused. Answers where that begins, by a count: of a closure that changes the book nothing would be known.
+    // would be refused. Answers where that begins. By a loop: of a closure that changes the book nothing would be known.
     pub fn hours(&mut self, s: &[u8]) -> usize
         ensures { run result self.new ≡ hours_between self.old s.now 0 (length s.now) }
     {
-        let mut end = 0;
-        for bytes in s.chunks_exact(HOUR_BYTES) {
+        for (k, bytes) in s.chunks_exact(HOUR_BYTES).enumerate() {
             if !self.enter_hour(bytes) {
-                break;
+                return k * HOUR_BYTES;
             }
-            end += HOUR_BYTES;
         }
-        end
+        s.len() - s.len() % HOUR_BYTES
     }
 }
 
