@@ -1,6 +1,7 @@
-// Where what is printed is put: a text, and the most bytes that it may have.
+// Where what is printed is put: a text, the most bytes that it may have, and where it lies, if that is a slice of the caller's.
 ghost use Rattle.std.specs.Prelude.{◌≡◌, ℕ, List, [], cond, ◌++◌, ◌+◌, leb, length, take};
 ghost use Rattle.std.specs.Io.Cursor.{cursor_position, cursor_inner};
+ghost use Rattle.report.specs.Buffers.{Stays};
 
 use arrayvec::ArrayVec;
 use std::io::Cursor;
@@ -10,6 +11,8 @@ pub trait Buffer {
 
     ghost size: { Self → ℕ };
 
+    ghost place: { Self → ℕ };
+
     // How many bytes more the text may have.
     fn room(&self) -> usize
         ensures { result + length (text self.now) ≡ size self.now };
@@ -18,22 +21,23 @@ pub trait Buffer {
     fn put(&mut self, bytes: &[u8])
         ensures text { text self.new
             ≡ cond (leb (length (text self.old) + length bytes.now) (size self.old)) (text self.old ++ bytes.now) (text self.old) }
-        ensures size { size self.new ≡ size self.old };
+        ensures stays { Stays size place self.old self.new };
 
-    // The text.
     fn as_slice(&self) -> &[u8]
         ensures { result.now ≡ text self.now };
 
-    // All of the text is printed.
+    // Empties the text, once it is printed.
     fn clear(&mut self)
         ensures text { text self.new ≡ [] }
-        ensures size { size self.new ≡ size self.old };
+        ensures stays { Stays size place self.old self.new };
 }
 
 impl<const SIZE: usize> Buffer for ArrayVec<u8, SIZE> {
     ghost text = { λ v. v.items };
 
     ghost size = { λ v. SIZE };
+
+    ghost place = { λ v. 0 };
 
     fn room(&self) -> usize {
         self.remaining_capacity()
@@ -58,11 +62,14 @@ impl Buffer for Cursor<&mut [u8]> {
 
     ghost size = { λ c. length (cursor_inner c).now };
 
+    ghost place = { λ c. (cursor_inner c).ghost_name };
+
     fn room(&self) -> usize {
         (self.get_ref().len() as u64).saturating_sub(self.position()) as usize
     }
 
     fn put(&mut self, bytes: &[u8]) {
+        // A position past the end has no room, and no bytes to slice.
         if bytes.is_empty() || self.room() < bytes.len() {
             return;
         }

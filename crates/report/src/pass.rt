@@ -3,6 +3,7 @@
 
 ghost use Rattle.std.specs.Prelude.{◌≡◌, cond, [], ◌++◌, ◌+◌, ◌≤◌, ◌<◌, ◌^◌, min, leb, length, take, Ok, IsOk};
 ghost use Rattle.book.specs.Runs.{hours_between};
+ghost use Rattle.report.specs.Buffers.{Stays};
 ghost use Rattle.report.specs.Printed.{end_line, lines_most, pair_most};
 ghost use Rattle.report.specs.Passes.{State, standing, state_of, at_first, post_area, tried, HoursTaken, stopped, passed, free, room, Left, emptied, countable, pass_answer, text_given, close_answer, finish_answer};
 
@@ -53,7 +54,7 @@ fn post_area(bytes: &[u8]) -> u32
 pub fn close<B: Buffer>(out: &mut B, tried: u64, accepted: u64) -> Result<(), Unfinished>
     ensures value { text_given result (B.text out.new)
         ≡ cond (leb (length (B.text out.old) + pair_most) (B.size out.old)) (B.text out.old ++ end_line tried accepted) [] }
-    ensures size { B.size out.new ≡ B.size out.old }
+    ensures stays { Stays B.size B.place out.old out.new }
     ensures given { length (B.text out.old) + pair_most ≤ B.size out.old → IsOk result }
 {
     if out.room() < PAIR_MOST {
@@ -102,7 +103,7 @@ impl Report {
         requires fits { self.old.tried + 1 < 2 ^ 64 }
         requires has_room { length (B.text out.old) + lines_most ≤ B.size out.old }
         ensures value { state_of self.new (B.text out.new) ≡ tried (state_of self.old (B.text out.old)) bytes.now }
-        ensures size { B.size out.new ≡ B.size out.old }
+        ensures stays { Stays B.size B.place out.old out.new }
         ensures most { length (B.text out.new) ≤ length (B.text out.old) + lines_most }
     {
         self.tried += 1;
@@ -133,7 +134,7 @@ impl Report {
         requires { self.old.tried + length s.now < 2 ^ 64 }
         ensures value { stopped (state_of self.new (B.text out.new)) result.next result.stop
             ≡ passed (B.size out.old) (state_of self.old (B.text out.old)) s.now }
-        ensures size { B.size out.new ≡ B.size out.old }
+        ensures stays { Stays B.size B.place out.old out.new }
         ensures has_room { length (B.text out.new) + free result.stop ≤ B.size out.old }
         ensures left { Left result.next self.new.tried self.old.tried s.now }
     {
@@ -185,7 +186,7 @@ impl Report {
     pub fn take<B: Buffer>(&mut self, s: &[u8], out: &mut B) -> Pass
         ensures value { stopped (state_of self.new (B.text out.new)) result.next result.stop
             ≡ pass_answer (B.size out.old) (state_of self.old (B.text out.old)) s.now }
-        ensures size { B.size out.new ≡ B.size out.old }
+        ensures stays { Stays B.size B.place out.old out.new }
         ensures has_room { length (B.text out.new) + free result.stop ≤ B.size out.old }
         ensures left { Left result.next self.new.tried self.old.tried s.now }
     {
@@ -196,7 +197,7 @@ impl Report {
     // The last line, after a broken record.
     pub fn close<B: Buffer>(&self, out: &mut B) -> Result<(), Unfinished>
         ensures value { text_given result (B.text out.new) ≡ close_answer (B.size out.old) (state_of self.now (B.text out.old)) }
-        ensures size { B.size out.new ≡ B.size out.old }
+        ensures stays { Stays B.size B.place out.old out.new }
         ensures given { length (B.text out.old) + pair_most ≤ B.size out.old → IsOk result }
     {
         close(out, self.tried, self.accepted)
@@ -205,7 +206,7 @@ impl Report {
     // The end of the input: what is left of it is a cut record, and is tried; then comes the last line.
     pub fn finish<B: Buffer>(&mut self, rest: &[u8], out: &mut B) -> Result<(), Unfinished>
         ensures value { text_given result (B.text out.new) ≡ finish_answer (B.size out.old) (state_of self.old (B.text out.old)) rest.now }
-        ensures size { B.size out.new ≡ B.size out.old }
+        ensures stays { Stays B.size B.place out.old out.new }
         ensures given { self.old.tried + 1 < 2 ^ 64 → length (B.text out.old) + room ≤ B.size out.old → IsOk result }
         ensures tried { self.new.tried ≤ self.old.tried + 1 }
     {

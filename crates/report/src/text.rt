@@ -4,6 +4,7 @@
 
 ghost use Rattle.std.specs.Prelude.{◌≡◌, [], ◌∷◌, ◌++◌, ◌+◌, ◌≤◌, length};
 ghost use Rattle.records.specs.Format.{party_count};
+ghost use Rattle.report.specs.Buffers.{Puts};
 ghost use Rattle.report.specs.Printed.{decimal, signed, field, line_end, refused_line, party_line, end_line, unless_zero, party_lines};
 ghost use Rattle.report.specs.Printed.{field_most, signed_field_most, pair_most, line_most, lines_most};
 
@@ -28,8 +29,7 @@ pub(crate) const LINES_MOST: usize = Book::PARTIES * LINE_MOST;
 
 fn put<B: Buffer>(out: &mut B, text: &[u8])
     requires { length (B.text out.old) + length text.now ≤ B.size out.old }
-    ensures put { B.text out.new ≡ B.text out.old ++ text.now }
-    ensures size { B.size out.new ≡ B.size out.old }
+    ensures put { Puts B.text B.size B.place out.old out.new text.now }
 {
     out.put(text);
 }
@@ -37,8 +37,7 @@ fn put<B: Buffer>(out: &mut B, text: &[u8])
 // A blank and a number.
 fn put_field<I: Integer, B: Buffer>(out: &mut B, n: I)
     requires { length (B.text out.old) + 1 + I.MAX_STR_LEN ≤ B.size out.old }
-    ensures put { B.text out.new ≡ B.text out.old ++ field (I.text n) }
-    ensures size { B.size out.new ≡ B.size out.old }
+    ensures put { Puts B.text B.size B.place out.old out.new (field (I.text n)) }
     ensures most { length (B.text out.new) ≤ length (B.text out.old) + 1 + I.MAX_STR_LEN }
 {
     put(out, b" ");
@@ -48,8 +47,7 @@ fn put_field<I: Integer, B: Buffer>(out: &mut B, n: I)
 // Two functions for `put_field` at two types, each of which says its text in the words of the definitions.
 fn put_number<B: Buffer>(out: &mut B, n: u64)
     requires { length (B.text out.old) + field_most ≤ B.size out.old }
-    ensures put { B.text out.new ≡ B.text out.old ++ field (decimal n) }
-    ensures size { B.size out.new ≡ B.size out.old }
+    ensures put { Puts B.text B.size B.place out.old out.new (field (decimal n)) }
     ensures most { length (B.text out.new) ≤ length (B.text out.old) + field_most }
 {
     put_field(out, n);
@@ -57,8 +55,7 @@ fn put_number<B: Buffer>(out: &mut B, n: u64)
 
 fn put_amount<B: Buffer>(out: &mut B, v: i64)
     requires { length (B.text out.old) + signed_field_most ≤ B.size out.old }
-    ensures put { B.text out.new ≡ B.text out.old ++ field (signed v) }
-    ensures size { B.size out.new ≡ B.size out.old }
+    ensures put { Puts B.text B.size B.place out.old out.new (field (signed v)) }
     ensures most { length (B.text out.new) ≤ length (B.text out.old) + signed_field_most }
 {
     put_field(out, v);
@@ -66,8 +63,7 @@ fn put_amount<B: Buffer>(out: &mut B, v: i64)
 
 fn put_pair<B: Buffer>(out: &mut B, letter: &[u8; 1], n: u64, k: u64)
     requires { length (B.text out.old) + pair_most ≤ B.size out.old }
-    ensures put { B.text out.new ≡ B.text out.old ++ letter.now ++ field (decimal n) ++ field (decimal k) ++ line_end }
-    ensures size { B.size out.new ≡ B.size out.old }
+    ensures put { Puts B.text B.size B.place out.old out.new (letter.now ++ field (decimal n) ++ field (decimal k) ++ line_end) }
     ensures most { length (B.text out.new) ≤ length (B.text out.old) + pair_most }
 {
     put(out, letter);
@@ -79,8 +75,7 @@ fn put_pair<B: Buffer>(out: &mut B, letter: &[u8; 1], n: u64, k: u64)
 // Two lines of a kind: a letter as a parameter would be no plainer where they are called.
 pub(crate) fn put_refusal<B: Buffer>(out: &mut B, n: u64, c: u32)
     requires { length (B.text out.old) + pair_most ≤ B.size out.old }
-    ensures put { B.text out.new ≡ B.text out.old ++ refused_line n c }
-    ensures size { B.size out.new ≡ B.size out.old }
+    ensures put { Puts B.text B.size B.place out.old out.new (refused_line n c) }
     ensures most { length (B.text out.new) ≤ length (B.text out.old) + pair_most }
 {
     put_pair(out, b"R", n, u64::from(c));
@@ -88,8 +83,7 @@ pub(crate) fn put_refusal<B: Buffer>(out: &mut B, n: u64, c: u32)
 
 pub(crate) fn put_end<B: Buffer>(out: &mut B, n: u64, k: u64)
     requires { length (B.text out.old) + pair_most ≤ B.size out.old }
-    ensures put { B.text out.new ≡ B.text out.old ++ end_line n k }
-    ensures size { B.size out.new ≡ B.size out.old }
+    ensures put { Puts B.text B.size B.place out.old out.new (end_line n k) }
     ensures most { length (B.text out.new) ≤ length (B.text out.old) + pair_most }
 {
     put_pair(out, b"E", n, k);
@@ -97,8 +91,7 @@ pub(crate) fn put_end<B: Buffer>(out: &mut B, n: u64, k: u64)
 
 fn put_line<B: Buffer>(out: &mut B, area: u32, party: u64, v: i64)
     requires { length (B.text out.old) + line_most ≤ B.size out.old }
-    ensures put { B.text out.new ≡ B.text out.old ++ party_line area party v }
-    ensures size { B.size out.new ≡ B.size out.old }
+    ensures put { Puts B.text B.size B.place out.old out.new (party_line area party v) }
     ensures most { length (B.text out.new) ≤ length (B.text out.old) + line_most }
 {
     put(out, b"P");
@@ -110,8 +103,7 @@ fn put_line<B: Buffer>(out: &mut B, area: u32, party: u64, v: i64)
 
 fn put_unless_zero<B: Buffer>(out: &mut B, area: u32, party: u64, v: i64)
     requires { length (B.text out.old) + line_most ≤ B.size out.old }
-    ensures put { B.text out.new ≡ B.text out.old ++ unless_zero area party v }
-    ensures size { B.size out.new ≡ B.size out.old }
+    ensures put { Puts B.text B.size B.place out.old out.new (unless_zero area party v) }
     ensures most { length (B.text out.new) ≤ length (B.text out.old) + line_most }
 {
     if v != 0 {
@@ -123,8 +115,7 @@ fn put_unless_zero<B: Buffer>(out: &mut B, area: u32, party: u64, v: i64)
 #[tactic(auto, using(crate::proofs::Texts::lines_more), unfolding(crate::specs::Printed::party_lines))]
 pub(crate) fn put_lines<B: Buffer>(out: &mut B, area: u32, lines: [Cents; Book::PARTIES])
     requires { length (B.text out.old) + lines_most ≤ B.size out.old }
-    ensures put { B.text out.new ≡ B.text out.old ++ party_lines area lines party_count }
-    ensures size { B.size out.new ≡ B.size out.old }
+    ensures put { Puts B.text B.size B.place out.old out.new (party_lines area lines party_count) }
     ensures most { length (B.text out.new) ≤ length (B.text out.old) + lines_most }
 {
     for (p, line) in lines.iter().enumerate() {
