@@ -129,6 +129,11 @@ abbrev pub text_given : {E : Type 0} → Result (Unit {0}) E → List ℕ → Li
 text_given (Ok ok) text = text
 text_given (Err e) text = []
 
+-- the same, of a text that ends at a place of a slice
+abbrev pub text_before : {E : Type 0} → Result ℕ E → List ℕ → List ℕ
+text_before (Ok end) out = take end out
+text_before (Err e) out = []
+
 -- Where there is no room for the last line, nothing is printed.
 unfoldable pub close_answer : ℕ → State → List ℕ
 close_answer size r = cond (leb (length r.text + pair_most) size) (closed r) []

@@ -3,5 +3,6 @@
 
 pub mod buffer;
 pub mod pass;
+mod slice;
 pub mod standing;
 mod text;

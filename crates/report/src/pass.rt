@@ -5,7 +5,7 @@ ghost use Rattle.std.specs.Prelude.{◌≡◌, cond, [], ◌++◌, ◌+◌, ◌�
 ghost use Rattle.book.specs.Runs.{hours_between};
 ghost use Rattle.report.specs.Buffers.{Stays};
 ghost use Rattle.report.specs.Printed.{end_line, lines_most, pair_most};
-ghost use Rattle.report.specs.Passes.{State, standing, state_of, at_first, post_area, tried, HoursTaken, stopped, passed, free, room, Left, emptied, countable, pass_answer, text_given, close_answer, finish_answer};
+ghost use Rattle.report.specs.Passes.{State, standing, state_of, at_first, post_area, tried, HoursTaken, stopped, passed, free, room, Left, emptied, countable, pass_answer, text_given, close_answer, finish_answer, ended};
 
 use crate::buffer::Buffer;
 use crate::standing::Report;
@@ -33,7 +33,8 @@ pub struct Pass {
     pub stop: Stop,
 }
 
-// Why there is no last line: the text has no room for it, or the counts do not fit 64 bits.
+// There is no last line: the text has no room for it, or the counts do not fit 64 bits. One value for both, since a caller can only
+// end without it.
 #[derive(Clone, Copy)]
 pub struct Unfinished;
 
@@ -208,6 +209,7 @@ impl Report {
         ensures value { text_given result (B.text out.new) ≡ finish_answer (B.size out.old) (state_of self.old (B.text out.old)) rest.now }
         ensures stays { Stays B.size B.place out.old out.new }
         ensures given { self.old.tried + 1 < 2 ^ 64 → length (B.text out.old) + room ≤ B.size out.old → IsOk result }
+        ensures run { IsOk result → state_of self.new [] ≡ emptied (ended (state_of self.old []) rest.now) }
         ensures tried { self.new.tried ≤ self.old.tried + 1 }
     {
         if !rest.is_empty() {

@@ -1,0 +1,48 @@
+// A run whose text is in a slice of the caller's: what stands in it before a place, as far as the slice goes.
+ghost use Rattle.std.specs.Prelude.{◌≡◌, ◌+◌, ◌≤◌, length, take};
+ghost use Rattle.report.specs.Passes.{state_of, stopped, free, Left, pass_answer, text_before, close_answer, finish_answer};
+
+use crate::buffer::Buffer;
+use crate::pass::{Pass, Unfinished};
+use crate::standing::Report;
+use std::io::Cursor;
+
+impl Report {
+    // `take`, and where the text ends.
+    pub fn take_in(&mut self, s: &[u8], out: &mut [u8], used: usize) -> (Pass, usize)
+        ensures value { stopped (state_of self.new (take result.1 out.new)) result.0.next result.0.stop
+            ≡ pass_answer (length out.old) (state_of self.old (take used out.old)) s.now }
+        ensures has_room { result.1 + free result.0.stop ≤ length out.new }
+        ensures left { Left result.0.next self.new.tried self.old.tried s.now }
+    {
+        let mut text = Cursor::new(out);
+        text.set_position(used as u64);
+        let pass = self.take(s, &mut text);
+        (pass, text.as_slice().len())
+    }
+
+    // `close`, and where the text ends.
+    pub fn close_in(&self, out: &mut [u8], used: usize) -> Result<usize, Unfinished>
+        ensures { text_before result out.new ≡ close_answer (length out.old) (state_of self.now (take used out.old)) }
+    {
+        let mut text = Cursor::new(out);
+        text.set_position(used as u64);
+        self.close(&mut text)?;
+        Ok(text.as_slice().len())
+    }
+
+    // `finish`, and where the text ends.
+    pub fn finish_in(
+        &mut self,
+        rest: &[u8],
+        out: &mut [u8],
+        used: usize,
+    ) -> Result<usize, Unfinished>
+        ensures { text_before result out.new ≡ finish_answer (length out.old) (state_of self.old (take used out.old)) rest.now }
+    {
+        let mut text = Cursor::new(out);
+        text.set_position(used as u64);
+        self.finish(rest, &mut text)?;
+        Ok(text.as_slice().len())
+    }
+}
