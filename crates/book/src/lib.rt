@@ -14,8 +14,8 @@ use rules::indices::{self, area_named, index, unit_named};
 use rules::refusal::{Asked, Refusal};
 use std::marker::Model;
 
-// A unit: its record, and what its accepted hours come to.
-#[derive(Clone, Copy)]
+// A unit: its record, and what its accepted hours come to; by default all zeros, which is no unit.
+#[derive(Clone, Copy, Default)]
 pub struct Unit {
     entry: UnitRecord,
     hours: HourCounts,
@@ -66,16 +66,9 @@ impl Book {
     {
         Self {
             year: 0,
-            areas: [AreaRecord { area: 0, price: 0 }; Book::AREAS],
-            units: [Unit::none(); Book::UNITS],
-            commitments: [CommitmentRecord {
-                number: 0,
-                unit: 0,
-                party: 0,
-                first: 0,
-                last: 0,
-                watts: 0,
-            }; Book::COMMITMENTS],
+            areas: [AreaRecord::default(); Book::AREAS],
+            units: [Unit::default(); Book::UNITS],
+            commitments: [CommitmentRecord::default(); Book::COMMITMENTS],
             obligations: [[0; Book::PARTIES]; Book::AREAS],
             posted: [[Cents::zero(); Book::PARTIES]; Book::AREAS],
         }

@@ -1,32 +1,14 @@
 // A unit: as it is entered, and with an hour more.
 ghost use Rattle.std.specs.Prelude.{◌≡◌};
-ghost use Rattle.book.specs.Books.{no_entry, SoundUnit};
+ghost use Rattle.book.specs.Books.{SoundUnit};
 ghost use Rattle.book.specs.Entered.{new_unit, with_hour};
 
 use crate::Unit;
-use capacity::InstalledWatts;
-use capacity::rating::{HourCounts, Rating};
+use capacity::rating::HourCounts;
 use records::format::{HourRecord, UnitRecord};
 use rules::hour::{hour_counts, hour_index};
 
 impl Unit {
-    // A unit that is not entered is all zeros, as `Book` says.
-    pub(crate) fn none() -> Self
-        ensures { result ≡ no_entry }
-    {
-        Self::new(UnitRecord {
-            unit: 0,
-            area: 0,
-            rating: Rating {
-                installed: InstalledWatts::new(0),
-                eford: 0,
-                eford5: 0,
-                efordyear: 0,
-                class: 0,
-            },
-        })
-    }
-
     pub(crate) fn new(entry: UnitRecord) -> Self
         ensures { result ≡ new_unit entry }
     {

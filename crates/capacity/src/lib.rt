@@ -8,7 +8,7 @@ ghost use Rattle.capacity.specs.Quantities.{installed_watts};
 // alone, and tests/host/quantities lists the functions that may call those.
 
 // Installed capacity (ICAP): I and T.
-#[derive(Clone, Copy)]
+#[derive(Clone, Copy, Default)]
 pub struct InstalledWatts(u64);
 
 // Unforced capacity (UCAP): U, X, G, P and the limit; a shortfall, which below zero is an excess; shares and nets of it.

@@ -6,7 +6,7 @@ use crate::InstalledWatts;
 use numbers::range::within;
 
 // A set's rating, as its Unit record states it.
-#[derive(Clone, Copy)]
+#[derive(Clone, Copy, Default)]
 pub struct Rating {
     // I, installed capacity (ICAP).
     pub installed: InstalledWatts,

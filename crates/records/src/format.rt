@@ -16,21 +16,21 @@ pub(crate) const LOAD_BYTES: usize = 9;
 
 pub(crate) const POST_BYTES: usize = 4;
 
-#[derive(Clone, Copy)]
+#[derive(Clone, Copy, Default)]
 pub struct AreaRecord {
     pub area: u32,
     // In cents per MW-day.
     pub price: u32,
 }
 
-#[derive(Clone, Copy)]
+#[derive(Clone, Copy, Default)]
 pub struct UnitRecord {
     pub unit: u32,
     pub area: u32,
     pub rating: Rating,
 }
 
-#[derive(Clone, Copy)]
+#[derive(Clone, Copy, Default)]
 pub struct CommitmentRecord {
     pub number: u32,
     pub unit: u32,
