@@ -27,6 +27,7 @@ fn parts(commitments: &[CommitmentRecord; Book::COMMITMENTS], u: usize) -> [u64;
 {
     let mut parts = [0; Book::PARTIES];
     for c in commitments {
+        // `as`, here and below: no `From` between `u32` and `usize`.
         if c.unit as usize == u + 1 {
             let p = index::<{ Book::PARTIES }>(c.party);
             parts[p] += watt_days(u64::from(c.watts), u64::from(c.first), u64::from(c.last));
@@ -45,8 +46,7 @@ impl Book {
         let days = u64::from(delivery_days(self.year));
         let mut nets = no_nets();
         for (k, u) in self.units.iter().enumerate() {
-            let is_here = u.entry.area as usize == area + 1;
-            if is_here {
+            if u.entry.area as usize == area + 1 {
                 let shares = unit_shares(
                     u.entry.rating,
                     u.hours,
