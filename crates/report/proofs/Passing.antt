@@ -1,4 +1,4 @@
--- A pass over a buffer, record by record: hours in a row are so many records tried, counted, and nothing is printed.
+-- A pass over a slice, record by record: hours in a row are so many records tried, counted, and nothing is printed.
 use Rattle.std.proofs.Common.{◌≡◌, refl, sym, ap, ◌∙◌, Bool, true, false, List, [], append-nil, ℕ, zero, suc, ◌+◌, ◌*◌, ◌-◌, ◌/◌, ◌≤◌, ◌<◌, min}
 use Rattle.std.proofs.Common.{add-zero, le_refl, add-one, arith, eqb, ltb, length, take, drop, length-drop, take_all, eqb-true, lt-ltb, le-ltb, le-leb, ◌∷◌, ◌^◌}
 use mathlib.Core.Bool.{false≢true}

@@ -1,4 +1,4 @@
--- The records of a buffer, one after another. 01, The ledger program.
+-- The records of a slice, one after another. 01, The ledger program.
 use Rattle.std.specs.Prelude.{◌≡◌, cond, ◌&&◌, List, [], ◌∷◌, ◌++◌, ℕ, zero, suc, ◌+◌, ◌-◌, ◌/◌, ◌^◌, ◌≤◌, eqb, ltb, leb, length, take, drop, Result, Ok, Err}
 use Rattle.records.specs.declared.stream.Next.{Next}
 use Rattle.records.specs.declared.stream.Next.TheVariants.{Whole, Broken, Partial}
@@ -59,7 +59,7 @@ abbrev pub HoursTaken : State → List ℕ → ℕ → State → Type 0
 HoursTaken before s taken after =
     (taken ≡ (hours_between before.book s 0 (length s)).next) × (after ≡ with_hours before (hours_between before.book s 0 (length s))) × (taken ≤ length s)
 
--- a pass over a buffer that stopped, and where the record begins that it stopped at
+-- a pass over a slice that stopped, and where the record begins that it stopped at
 pub record Stopped : Type 0 where
   pub state : State
   pub next : ℕ

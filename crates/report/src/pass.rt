@@ -15,7 +15,7 @@ use records::decode::decode;
 use records::format::{HOUR_BYTES, Record};
 use records::stream::{Next, next_record};
 
-// Why a pass over a buffer stopped.
+// Why a pass over a slice stopped.
 #[derive(Clone, Copy)]
 pub enum Stop {
     // There is no room for another answer.
@@ -52,7 +52,7 @@ fn post_area(bytes: &[u8]) -> u32
 }
 
 // The last line, whatever was counted: two numbers here, and no Report, in which no more are accepted than tried.
-pub fn close<B: Buffer>(out: &mut B, tried: u64, accepted: u64) -> Result<(), Unfinished>
+pub fn last_line<B: Buffer>(out: &mut B, tried: u64, accepted: u64) -> Result<(), Unfinished>
     ensures value { text_given result (B.text out.new)
         ≡ cond (leb (length (B.text out.old) + pair_most) (B.size out.old)) (B.text out.old ++ end_line tried accepted) [] }
     ensures stays { Stays B.size B.place out.old out.new }
@@ -201,7 +201,7 @@ impl Report {
         ensures stays { Stays B.size B.place out.old out.new }
         ensures given { length (B.text out.old) + pair_most ≤ B.size out.old → IsOk result }
     {
-        close(out, self.tried, self.accepted)
+        last_line(out, self.tried, self.accepted)
     }
 
     // The end of the input: what is left of it is a cut record, and is tried; then comes the last line.
