@@ -25,7 +25,7 @@ fn number(answer: Result<[Cents; Book::PARTIES], Refusal>) -> u32
 {
     match answer {
         Ok(_) => 0,
-        Err(row) => row.number(),
+        Err(row) => u32::from(row),
     }
 }
 

@@ -113,7 +113,7 @@ impl Report {
                 self.accepted += 1;
                 put_lines(out, post_area(bytes), lines);
             }
-            Err(refusal) => put_refusal(out, self.tried, refusal.number()),
+            Err(refusal) => put_refusal(out, self.tried, u32::from(refusal)),
         }
     }
 

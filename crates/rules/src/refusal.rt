@@ -34,17 +34,18 @@ pub enum Refusal {
     Undistributed,
 }
 
-impl Refusal {
-    // `as`, since an enum has no `From` to its number: that is 0 to 10, and nothing is lost.
-    pub fn number(self) -> u32
-        ensures { result ≡ row_number self }
-    {
-        self as u32 + 1
+impl From<Refusal> for u32 {
+    ghost from_gives = { λ row n. n ≡ row_number row };
+
+    fn from(row: Refusal) -> u32 {
+        // `as`: the variants' numbers from 0, and nothing is lost.
+        row as u32 + 1
     }
 }
 
-// What the rows ask, of the area and the unit that a record names. Flags with values beside them, and no Option: `asked_of` and
-// `refusal_of` speak of this struct field by field, and a row that asks a value comes after the one that asks the flag.
+// What the rows ask, of the area and the unit that a record names. Flags with values beside them, and no Option: the fields are
+// public, and an Option there would ask another shape of a caller that fills them; `asked_of` and `refusal_of` speak of this struct
+// field by field, and a row that asks a value comes after the one that asks the flag.
 #[derive(Clone, Copy)]
 pub struct Asked {
     // 0 before a year is entered.
