@@ -35,7 +35,8 @@ impl UnforcedWatts {
         split_array(self.size(), weights).map(|size| self.with_size(size))
     }
 
-    // A net with one share more; 0 where either is past the bound, and no Option: those of an area never are.
+    // A net with one share more; where either is past the bound 0, and no Option: the definition `net_with` gives 0 there. Those of
+    // an area never are.
     #[tactic(auto, unfolding(crate::specs::Shares::net_with))]
     fn with_share(self, share: Self) -> Self
         ensures { result ≡ unforced_watts (net_with self.0 share.0) }

@@ -125,7 +125,8 @@ impl Area {
         Cents::new(self.nets[p].above() * self.price * self.days / MEGAWATT)
     }
 
-    // M of a party: its excess, priced. Beside C, and no function of the watts for both: a net keeps its type until it is priced.
+    // M of a party: its excess, priced. Beside C, and no function of the watts for both: quantities are converted in named formula
+    // functions alone, which tests/host/quantities lists.
     fn ceiling(self, p: usize) -> Cents
         requires { p < 16 }
         ensures { result ≡ cents (pos (ceiling (watts_of self.nets) self.price self.days p)) }

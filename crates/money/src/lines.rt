@@ -10,7 +10,8 @@ use std::array;
 const DUE_MOST: u64 = 2_928_000_000;
 
 impl Cents {
-    // A due's line: the due less the earlier lines; 0 where either is past the bound, and no Option: those of an area never are.
+    // A due's line: the due less the earlier lines; where either is past the bound 0, and no Option: the definition `line_answer`
+    // gives 0 there. Those of an area never are.
     #[tactic(auto, unfolding(crate::specs::Lines::line_answer))]
     fn line_after(self, earlier: Self) -> Self
         ensures { result ≡ cents (line_answer self.0 earlier.0) }

@@ -52,7 +52,8 @@ pub(crate) fn is_derated(h: HourRecord) -> bool
     matches!(HourKind::try_from(h.kind), Ok(HourKind::Derated))
 }
 
-// Its date in a delivery year, which stays an argument of its own: the book's, and none of the record's.
+// Its date in a delivery year. The year, which is the book's, and the Hour stay two arguments: the definitions take them so
+// (`hour_index y h`, `hour_counts y h`), and the two functions of these names are public.
 pub(crate) fn date_of(year: u32, h: HourRecord) -> DeliveryDate
     ensures year { result.year ≡ year }
     ensures month { result.month ≡ h.month }

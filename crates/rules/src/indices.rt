@@ -22,6 +22,7 @@ pub fn index<const MOST: usize>(number: u32) -> usize
     ensures value { result ≡ index MOST number }
     ensures below { 0 < MOST → result < MOST }
 {
+    // `as`, here and below: no `From` between `u32` or `u64` and `usize`.
     if within(1, MOST as u64, u64::from(number)) {
         number as usize - 1
     } else {

@@ -21,6 +21,7 @@ use records::format::{AreaRecord, CommitmentRecord, HourRecord, LoadRecord, Unit
 fn is_one_of<const MOST: usize>(n: u32) -> bool
     ensures { result ≡ within 1 MOST n }
 {
+    // `as`: no `From` between `usize` and `u64`.
     within(1, MOST as u64, u64::from(n))
 }
 
