@@ -3,7 +3,7 @@ use Rattle.capacity.proofs.Capacities.{unit_range}
 use Rattle.capacity.proofs.shortfall.CommittedUnit.available.Goals as goal
 
 pub unforced-year_rated-requires : goal.unforced-year_rated-requires
-unforced-year_rated-requires c = let unit = c.args.self in (omega (arith, unit.at_most, unit_range unit.in_range), omega (arith, unit_range unit.in_range))
+unforced-year_rated-requires c = (c.args.self.at_most, (unit_range c.args.self.in_range).efordyear_to)
 
 pub overflow_add-self : goal.overflow_add-self
 overflow_add-self c = omega (arith, unit_range c.args.self.in_range)

@@ -6,15 +6,13 @@ use Rattle.capacity.proofs.Formulas.{limit_fits}
 use Rattle.capacity.proofs.shortfall.CommittedUnit.limit.Goals as goal
 
 pub unforced-unforced-requires : goal.unforced-unforced-requires
-unforced-unforced-requires c =
-    let unit = c.args.self in (omega (arith, unit.at_most, unit_range unit.in_range), omega (arith, unit_range unit.in_range))
+unforced-unforced-requires c = let unit = unit_range c.args.self.in_range in (unit.installed_to, unit.eford_to)
 
 pub overflow_mul-above : goal.overflow_mul-above
 unfolding above
 overflow_mul-above c =
-    let unit = c.args.self in
     let few : above c.unforced-unforced.result.0 ≤ installed_most =
-    rw c.unforced-unforced.ensures (le_trans (unforced_at_most _ _) (omega (arith, unit.at_most, unit_range unit.in_range))) in
+    rw c.unforced-unforced.ensures (le_trans (unforced_at_most _ _) (unit_range c.args.self.in_range).installed_to) in
     omega (arith, limit_fits {u = c.above.result} {q = c.quarters.result} (omega arith) c.quarters.ensures.1)
 
 pub returns : goal.returns

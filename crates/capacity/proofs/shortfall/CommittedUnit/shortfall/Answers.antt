@@ -1,4 +1,4 @@
-use Rattle.std.proofs.Common.{◌∙◌, ap, arith}
+use Rattle.std.proofs.Common.{◌∙◌, ap}
 use Rattle.numbers.specs.Signed.{above}
 use Rattle.numbers.proofs.Signs.{difference_answered}
 use Rattle.capacity.specs.Quantities.{unforced_watts}
@@ -7,7 +7,7 @@ use Rattle.capacity.proofs.Capacities.{unit_range}
 use Rattle.capacity.proofs.shortfall.CommittedUnit.shortfall.Goals as goal
 
 pub unforced-expected-requires : goal.unforced-expected-requires
-unforced-expected-requires c = let unit = c.args.self in (omega (arith, unit.at_most, unit_range unit.in_range), omega (arith, unit_range unit.in_range))
+unforced-expected-requires c = (c.args.self.at_most, (unit_range c.args.self.in_range).eford5_to)
 
 pub returns : goal.returns
 unfolding unit_shortfall above
