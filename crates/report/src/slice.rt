@@ -1,11 +1,23 @@
-// A run whose text is in a slice of the caller's: what stands in it before a place, as far as the slice goes.
+// A run whose text is in a slice of the caller's, of any length: what stands in it before a place, which the caller keeps beside it.
 ghost use Rattle.std.specs.Prelude.{◌≡◌, ◌+◌, ◌≤◌, length, take};
+ghost use Rattle.std.specs.Io.Cursor.{cursor_position, cursor_inner};
 ghost use Rattle.report.specs.Passes.{state_of, stopped, free, Left, pass_answer, text_before, close_answer, finish_answer};
 
 use crate::buffer::Buffer;
 use crate::pass::{Pass, Unfinished};
 use crate::standing::Report;
 use std::io::Cursor;
+
+// Such a slice as a buffer.
+fn text_in(out: &mut [u8], used: usize) -> Cursor<&mut [u8]>
+    ensures slice { (cursor_inner result).now ≡ out.old }
+    ensures same { (cursor_inner result).ghost_name ≡ out.entry.ghost_name }
+    ensures place { cursor_position result ≡ used }
+{
+    let mut text = Cursor::new(out);
+    text.set_position(used as u64);
+    text
+}
 
 impl Report {
     // `take`, and where the text ends.
@@ -15,8 +27,7 @@ impl Report {
         ensures has_room { result.1 + free result.0.stop ≤ length out.new }
         ensures left { Left result.0.next self.new.tried self.old.tried s.now }
     {
-        let mut text = Cursor::new(out);
-        text.set_position(used as u64);
+        let mut text = text_in(out, used);
         let pass = self.take(s, &mut text);
         (pass, text.as_slice().len())
     }
@@ -25,8 +36,7 @@ impl Report {
     pub fn close_in(&self, out: &mut [u8], used: usize) -> Result<usize, Unfinished>
         ensures { text_before result out.new ≡ close_answer (length out.old) (state_of self.now (take used out.old)) }
     {
-        let mut text = Cursor::new(out);
-        text.set_position(used as u64);
+        let mut text = text_in(out, used);
         self.close(&mut text)?;
         Ok(text.as_slice().len())
     }
@@ -40,8 +50,7 @@ impl Report {
     ) -> Result<usize, Unfinished>
         ensures { text_before result out.new ≡ finish_answer (length out.old) (state_of self.old (take used out.old)) rest.now }
     {
-        let mut text = Cursor::new(out);
-        text.set_position(used as u64);
+        let mut text = text_in(out, used);
         self.finish(rest, &mut text)?;
         Ok(text.as_slice().len())
     }
