@@ -102,7 +102,8 @@ impl Book {
         Ok([Cents::zero(); Book::PARTIES])
     }
 
-    // An Hour as `enter` takes it, and nothing else: whether it was accepted. Beside `enter`, whose other kinds would slow a run.
+    // An Hour as `enter` takes it, and nothing else: whether it was accepted. Beside `enter`, which goes by `decode`: with that a
+    // run misses the aim of speed (docs/DECISIONS.md, 41).
     fn enter_hour(&mut self, bytes: &[u8]) -> bool
         ensures value { result ≡ is_accepted_hour self.old bytes.now }
         ensures book { self.new ≡ cond result (entered self.old bytes.now).book self.old }

@@ -195,7 +195,8 @@ const HOUR_TAG: u32 = 5;
 
 const HOUR_LENGTH: u16 = 9;
 
-// The Hour record that a string of bytes is, if it is one. `decode` alone, without the other kinds, which would slow a run of hours.
+// The Hour record that a string of bytes is, if it is one. `decode` without the other kinds, with which a run of hours misses the aim
+// of speed (docs/DECISIONS.md, 41).
 pub fn hour_of(s: &[u8]) -> Option<HourRecord>
     ensures { result ≡ hour_of s.now }
 {
