@@ -1,4 +1,4 @@
-use Rattle.std.proofs.Common.{◌∙◌, ap}
+use Rattle.std.proofs.Common.{◌∙◌, ap, rules}
 use Rattle.numbers.specs.Signed.{above}
 use Rattle.numbers.proofs.Signs.{difference_answered}
 use Rattle.capacity.specs.Quantities.{unforced_watts}
@@ -7,7 +7,7 @@ use Rattle.capacity.proofs.Capacities.{unit_range}
 use Rattle.capacity.proofs.shortfall.CommittedUnit.shortfall.Goals as goal
 
 pub unforced-expected-requires : goal.unforced-expected-requires
-unforced-expected-requires c = (c.args.self.at_most, (unit_range c.args.self.in_range).eford5_to)
+unforced-expected-requires c = let range = unit_range c.args.self.in_range in search rules
 
 pub returns : goal.returns
 unfolding unit_shortfall above
