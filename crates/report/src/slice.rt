@@ -1,5 +1,5 @@
 // A run whose text is in a slice of the caller's, of any length: what stands in it before a place, which the caller keeps beside it.
-ghost use Rattle.std.specs.Prelude.{◌≡◌, ◌+◌, ◌≤◌, length, take};
+ghost use Rattle.std.specs.Prelude.{◌≡◌, ◌+◌, ◌≤◌, IfOk, length, take};
 ghost use Rattle.std.specs.Io.Cursor.{cursor_position, cursor_inner};
 ghost use Rattle.report.specs.Passes.{state_of, stopped, free, Left, pass_answer, text_before, close_answer, finish_answer};
 
@@ -34,7 +34,8 @@ impl Report {
 
     // `close`, and where the text ends.
     pub fn close_in(&self, out: &mut [u8], used: usize) -> Result<usize, Unfinished>
-        ensures { text_before result out.new ≡ close_answer (length out.old) (state_of self.now (take used out.old)) }
+        ensures value { text_before result out.new ≡ close_answer (length out.old) (state_of self.now (take used out.old)) }
+        ensures inside { IfOk result (λ end. end ≤ length out.new) }
     {
         let mut text = text_in(out, used);
         self.close(&mut text)?;
@@ -48,7 +49,8 @@ impl Report {
         out: &mut [u8],
         used: usize,
     ) -> Result<usize, Unfinished>
-        ensures { text_before result out.new ≡ finish_answer (length out.old) (state_of self.old (take used out.old)) rest.now }
+        ensures value { text_before result out.new ≡ finish_answer (length out.old) (state_of self.old (take used out.old)) rest.now }
+        ensures inside { IfOk result (λ end. end ≤ length out.new) }
     {
         let mut text = text_in(out, used);
         self.finish(rest, &mut text)?;
