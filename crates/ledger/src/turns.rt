@@ -62,6 +62,7 @@ impl<const IN: usize, const OUT: usize> Ledger<IN, OUT> {
         ensures { record_most ≤ IN → IsCut (unread self.old.input) → IfOk result (λ next. Follows
             (outlook (W.contents output.old) self.old (R.remaining input.old)) (W.contents output.new) (R.remaining input.new) self.new next) }
     {
+        // `as`: no `From` between `usize` and `u64`.
         if u64::MAX - 1 - IN as u64 <= self.report.tried() {
             return Err(Failure::TooLong);
         }

@@ -65,6 +65,7 @@ impl Buffer for Cursor<&mut [u8]> {
     ghost place = { λ c. (cursor_inner c).ghost_name };
 
     fn room(&self) -> usize {
+        // `as`, here and below: no `From` between `usize` and `u64`.
         (self.get_ref().len() as u64).saturating_sub(self.position()) as usize
     }
 

@@ -123,6 +123,7 @@ impl Report {
         ensures { HoursTaken (state_of self.old []) s.now result (state_of self.new []) }
     {
         let taken = self.book.hours(s);
+        // `as`, here and below: no `From` between `usize` and `u64`.
         let hours = (taken / HOUR_BYTES) as u64;
         self.tried += hours;
         self.accepted += hours;

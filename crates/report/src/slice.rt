@@ -8,7 +8,7 @@ use crate::pass::{Pass, Unfinished};
 use crate::standing::Report;
 use std::io::Cursor;
 
-// Such a slice as a buffer.
+// Such a slice as a buffer. `as`: no `From` between `usize` and `u64`.
 fn text_in(out: &mut [u8], used: usize) -> Cursor<&mut [u8]>
     ensures slice { (cursor_inner result).now ≡ out.old }
     ensures same { (cursor_inner result).ghost_name ≡ out.entry.ghost_name }

@@ -119,6 +119,7 @@ pub(crate) fn put_lines<B: Buffer>(out: &mut B, area: u32, lines: [Cents; Book::
     ensures most { length (B.text out.new) ≤ length (B.text out.old) + lines_most }
 {
     for (p, line) in lines.iter().enumerate() {
+        // `as`: no `From` between `usize` and `u64`.
         put_unless_zero(out, area, p as u64 + 1, line.amount());
     }
 }
