@@ -61,14 +61,23 @@ fn put_amount<B: Buffer>(out: &mut B, v: i64)
     put_field(out, v);
 }
 
+// A letter and two numbers, with which each line begins.
+fn put_start<B: Buffer>(out: &mut B, letter: &[u8; 1], n: u64, k: u64)
+    requires { length (B.text out.old) + 1 + field_most + field_most ≤ B.size out.old }
+    ensures put { Puts B.text B.size B.place out.old out.new (letter.now ++ field (decimal n) ++ field (decimal k)) }
+    ensures most { length (B.text out.new) ≤ length (B.text out.old) + 1 + field_most + field_most }
+{
+    put(out, letter);
+    put_number(out, n);
+    put_number(out, k);
+}
+
 fn put_pair<B: Buffer>(out: &mut B, letter: &[u8; 1], n: u64, k: u64)
     requires { length (B.text out.old) + pair_most ≤ B.size out.old }
     ensures put { Puts B.text B.size B.place out.old out.new (letter.now ++ field (decimal n) ++ field (decimal k) ++ line_end) }
     ensures most { length (B.text out.new) ≤ length (B.text out.old) + pair_most }
 {
-    put(out, letter);
-    put_number(out, n);
-    put_number(out, k);
+    put_start(out, letter, n, k);
     put(out, b"\n");
 }
 
@@ -94,9 +103,7 @@ fn put_line<B: Buffer>(out: &mut B, area: u32, party: u64, v: i64)
     ensures put { Puts B.text B.size B.place out.old out.new (party_line area party v) }
     ensures most { length (B.text out.new) ≤ length (B.text out.old) + line_most }
 {
-    put(out, b"P");
-    put_number(out, u64::from(area));
-    put_number(out, party);
+    put_start(out, b"P", u64::from(area), party);
     put_amount(out, v);
     put(out, b"\n");
 }
