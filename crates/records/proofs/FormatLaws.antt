@@ -1,6 +1,7 @@
 -- Laws of the format and of the next record.
-use Rattle.std.proofs.Common.{◌≡◌, refl, sym, subst, ◌∙◌, Bool, true, false, cond, not, ◌||◌, List, ◌++◌, ℕ, ◌+◌, ◌≤◌, ◌<◌, arith, eqb, ltb, length}
+use Rattle.std.proofs.Common.{◌≡◌, refl, sym, ap, subst, ◌∙◌, Bool, true, false, cond, not, ◌||◌, List, ◌++◌, ℕ, ◌+◌, ◌≤◌, ◌<◌, arith, eqb, ltb, length}
 use Rattle.std.proofs.Common.{take, get_or, length-take, length-take-le, get_or-take, ltb-true, ltb-false, lt-ltb, le-ltb, eq-eqb, ne_eqb}
+use Rattle.std.proofs.Math.ListN.{length-append}
 use native.Mathlib.Nat.{min-le_right}
 use lib.ListN.{get_or-append}
 use Rattle.records.specs.declared.stream.Next.{Next}
@@ -54,7 +55,7 @@ module _ (s : List ℕ) where
 abbrev Told : List ℕ → Next → Type 0
 Told s (Whole n) = (n ≡ 3 + length_of s) × (length_of s ≤ 32) × (n ≤ length s)
 Told s Broken = (3 ≤ length s) × (32 < length_of s)
-Told s Partial = is_broken s ≡ true
+Told s Partial = (is_broken s ≡ true) × (length s < 35)
 
 told : (s : List ℕ) → Told s (next_record s)
 unfolding next_record
@@ -62,9 +63,12 @@ told s = go (ltb (length s) 3) (ltb 32 (length_of s)) (ltb (length s) (3 + lengt
   where
     go : (a b c : Bool) → ltb (length s) 3 ≡ a → ltb 32 (length_of s) ≡ b → ltb (length s) (3 + length_of s) ≡ c
         → Told s (cond a Partial (cond b Broken (cond c Partial (Whole (3 + length_of s)))))
-    go true b c p q r = short s (ltb-true (length s) 3 p)
+    go true b c p q r = let few = ltb-true (length s) 3 p in (short s few, omega arith)
     go false true c p q r = (ltb-false (length s) 3 p, ltb-true 32 (length_of s) q)
-    go false false true p q r = cut s (ltb-true (length s) (3 + length_of s) r)
+    go false false true p q r =
+        let few = ltb-true (length s) (3 + length_of s) r in
+        let most = ltb-false 32 (length_of s) q in
+        (cut s few, omega arith)
     go false false false p q r = (refl, ltb-false 32 (length_of s) q, ltb-false (length s) (3 + length_of s) r)
 
 pub whole_not_broken : (s : List ℕ) (n : ℕ) → next_record s ≡ Whole n → (n ≤ length s) × (is_broken (take n s) ≡ false)
@@ -102,7 +106,35 @@ broken_stays s e t n = go (subst (Told s) e (told s)) (ltb (length (take n (s ++
         ))
 
 pub partial_broken : (s : List ℕ) → next_record s ≡ Partial → is_broken s ≡ true
-partial_broken s e = subst (Told s) e (told s)
+partial_broken s e = (subst (Told s) e (told s)).0
+
+-- a record that is not whole yet is short
+pub partial_most : (s : List ℕ) → next_record s ≡ Partial → length s < 35
+partial_most s e = (subst (Told s) e (told s)).1
+
+-- what follows changes no record that is whole or broken
+pub whole_stays : (s t : List ℕ) (n : ℕ) → next_record s ≡ Whole n → next_record (s ++ t) ≡ Whole n
+unfolding next_record
+whole_stays s t n e = go (subst (Told s) e (told s))
+  where
+    go : Told s (Whole n) → next_record (s ++ t) ≡ Whole n
+    go (all, bounded, there) =
+        let same = stated_at_first s t (omega arith) in
+        let more = length-append s t in
+        let begun : ltb (length (s ++ t)) 3 ≡ false = le-ltb (length (s ++ t)) 3 (omega arith) in
+        let whole : ltb (length (s ++ t)) (3 + length_of s) ≡ false = le-ltb (length (s ++ t)) (3 + length_of s) (omega arith) in
+        let framed : next_record (s ++ t) ≡ Whole (3 + length_of s) = simp (begun, same, le-ltb 32 (length_of s) bounded, whole) in
+        framed ∙ ap Whole (sym all)
+
+pub broken_more : (s t : List ℕ) → next_record s ≡ Broken → next_record (s ++ t) ≡ Broken
+unfolding next_record
+broken_more s t e = go (subst (Told s) e (told s))
+  where
+    go : Told s Broken → next_record (s ++ t) ≡ Broken
+    go (begun, above) =
+        let same = stated_at_first s t begun in
+        let more = length-append s t in
+        simp (le-ltb (length (s ++ t)) 3 (omega arith), same, lt-ltb 32 (length_of s) above)
 
 -- an Hour at the start of a stream is its next record
 pub hour_next : (s : List ℕ) → of_hour false (λ h. true) (decoded (take 12 s)) ≡ true → next_record s ≡ Whole 12

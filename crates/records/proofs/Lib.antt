@@ -1,3 +1,4 @@
 pub mod Frames
 pub mod FormatLaws
 pub mod OneKind
+pub mod Strings

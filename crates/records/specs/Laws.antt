@@ -1,9 +1,10 @@
 -- What the definitions of this folder give, for all arguments.
+use mathlib.Core.List.{flatten}
 use Rattle.std.specs.Prelude.{◌≡◌, Bool, true, false, ◌&&◌, List, [], ◌∷◌, ◌++◌, ℕ, ◌+◌, ◌≤◌, eqb, length, take}
 use Rattle.records.specs.declared.stream.Next.TheVariants.{Whole, Broken, Partial}
 use Rattle.records.specs.Format.{Field, Format, formats}
 use Rattle.records.specs.Decoded.{is_broken}
-use Rattle.records.specs.Stream.{next_record}
+use Rattle.records.specs.Stream.{next_record, strings_of}
 
 -- the first field begins at `from`, each other where the one before it ends, and the last ends at `size`
 abbrev pub adjoin_to : ℕ → List Field → ℕ → Bool
@@ -23,3 +24,5 @@ pub record RecordLaws : Type 0 where
   pub broken_stays : (s : List ℕ) → next_record s ≡ Broken → (t : List ℕ) (n : ℕ) → is_broken (take n (s ++ t)) ≡ true
   -- what is not whole when the input ends is refused by row 1
   pub partial_broken : (s : List ℕ) → next_record s ≡ Partial → is_broken s ≡ true
+  -- the strings that a stream is cut into, put end to end, are the stream
+  pub strings_joined : (s : List ℕ) → flatten (strings_of s) ≡ s

@@ -1,4 +1,5 @@
 use Rattle.records.proofs.FormatLaws.{fields_adjoin, whole_not_broken, broken_stays, partial_broken}
+use Rattle.records.proofs.Strings.{strings_joined}
 use Rattle.records.proofs.laws.records.Goals as goal
 
 pub returns : goal.returns
@@ -8,4 +9,5 @@ returns c =
       whole_not_broken = whole_not_broken;
       broken_stays = broken_stays;
       partial_broken = partial_broken;
+      strings_joined = strings_joined;
     }
