@@ -3,8 +3,7 @@
 
 ghost use Rattle.std.specs.Prelude.{OnOk, IfSome};
 ghost use Rattle.std.specs.Io.KnownBytes.{Appends};
-ghost use Rattle.report.specs.Passes.{at_first};
-ghost use Rattle.ledger.specs.Input.{printed_from};
+ghost use Rattle.report.specs.Passes.{at_first, printed_from};
 
 use crate::standing::Ledger;
 use crate::turns::Failure;

@@ -9,7 +9,7 @@ use Rattle.records.specs.Format.{party_count}
 use Rattle.records.specs.Decoded.{decoded}
 use Rattle.records.specs.Kinds.{Decoded, tag_of_record, of_hour}
 use Rattle.records.specs.declared.stream.Next.TheVariants.{Whole, Broken, Partial}
-use Rattle.records.specs.Stream.{next_record}
+use Rattle.records.specs.Stream.{next_record, on_next}
 use Rattle.records.proofs.FormatLaws.{hour_next, whole_least, whole_not_broken, broken_least}
 use Rattle.rules.specs.Rules.{refusal}
 use Rattle.rules.proofs.ByKind.{chosen}
@@ -17,7 +17,7 @@ use Rattle.book.specs.declared.Book.{Book}
 use Rattle.book.specs.Books.{facts_of_book}
 use Rattle.book.specs.Entered.{no_lines, lines_of, entered}
 use Rattle.book.specs.Runs.{Run, run, hour_length, hour_bytes, is_accepted_hour, hours_of, hours_between}
-use Rattle.report.specs.Passes.{State, standing, post_area, tried, with_hours, HoursTaken, stopped, room, on_next, pass_of, passed, Left, ended, closed, pass_answer, countable, close_answer, finish_answer}
+use Rattle.report.specs.Passes.{State, standing, post_area, tried, with_hours, HoursTaken, stopped, room, pass_of, passed, Left, ended, closed, pass_answer, countable, close_answer, finish_answer}
 use Rattle.report.specs.declared.pass.Stop.TheVariants as stop
 use Rattle.report.specs.Printed.{pair_most, party_lines, answer_text}
 

@@ -1,8 +1,6 @@
 -- The records of a slice, one after another. 01, The ledger program.
 use Rattle.std.specs.Prelude.{◌≡◌, cond, ◌&&◌, List, [], ◌∷◌, ◌++◌, ℕ, zero, suc, ◌+◌, ◌-◌, ◌/◌, ◌^◌, ◌≤◌, eqb, ltb, leb, length, take, drop, Result, Ok, Err}
-use Rattle.records.specs.declared.stream.Next.{Next}
-use Rattle.records.specs.declared.stream.Next.TheVariants.{Whole, Broken, Partial}
-use Rattle.records.specs.Stream.{next_record}
+use Rattle.records.specs.Stream.{next_record, on_next, strings_of}
 use Rattle.records.specs.Decoded.{decoded}
 use Rattle.records.specs.Kinds.{of_post}
 use Rattle.book.specs.declared.Book.{Book}
@@ -72,12 +70,6 @@ stopped r next stop = record { state = r; next = next; stop = stop }
 abbrev pub room : ℕ
 room = lines_most + pair_most
 
--- what follows from the next record of a stream
-abbrev pub on_next : {A : Type 0} → A → A → (ℕ → A) → Next → A
-on_next partial broken whole (Whole k) = whole k
-on_next partial broken whole Broken = broken
-on_next partial broken whole Partial = partial
-
 -- The records of s from a place on, at most n of them, into a buffer of so many bytes. Each whole one is tried, until there is
 -- no room for another answer or no whole record is left; a broken one is tried, takes all that is left, and is the last.
 unfoldable pub pass_of : ℕ → ℕ → State → List ℕ → ℕ → Stopped
@@ -98,9 +90,22 @@ abbrev pub ended : State → List ℕ → State
 ended r [] = r
 ended r (b ∷ s) = tried r (b ∷ s)
 
+-- strings are tried in turn
+unfoldable pub tried_all : State → List (List ℕ) → State
+tried_all r [] = r
+tried_all r (s ∷ ss) = tried_all (tried r s) ss
+
+-- a run over a whole input: all strings that it is cut into
+abbrev pub run_of : State → List ℕ → State
+run_of r s = tried_all r (strings_of s)
+
 -- the last line
 unfoldable pub closed : State → List ℕ
 closed r = r.text ++ end_line r.tried r.accepted
+
+-- all that is printed for a whole input from a state on
+unfoldable pub printed_from : State → List ℕ → List ℕ
+printed_from r s = closed (run_of r s)
 
 -- the room that is left: for an answer and the last line if more may come, for the last line after a broken record
 abbrev pub free : Stop → ℕ

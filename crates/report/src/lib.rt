@@ -2,6 +2,7 @@
 #![tactic(auto)]
 
 pub mod buffer;
+pub mod laws;
 pub mod pass;
 mod slice;
 pub mod standing;

@@ -1,9 +1,9 @@
 use Rattle.std.proofs.Common.{List, ℕ, arith, ◌∙◌, ◌≡◌, [], subst}
 use Rattle.std.specs.Io.KnownBytes.{Appends}
 use Rattle.std.proofs.lemmas.List.{nil_from_length}
+use Rattle.records.proofs.FormatLaws.{partial_most}
 use Rattle.report.specs.Passes.{state_of}
 use Rattle.ledger.specs.Unread.{unread}
-use Rattle.ledger.proofs.Streams.{partial_most}
 use Rattle.ledger.proofs.Outcomes.{outcome_at_end, last_lines}
 use Rattle.ledger.proofs.standing.Ledger.read_more.Goals as goal
 
