@@ -1,4 +1,5 @@
 -- The definitions give figure i.
+use Rattle.std.proofs.Common.{refl}
 use Rattle.numbers.specs.Rows.{EachGiven}
 use Rattle.numbers.specs.Sum.{sum_below}
 use Rattle.numbers.specs.Lists.{list_below}
@@ -9,4 +10,4 @@ use Rattle.money.specs.Figures.{CreditGiven, credit_rows}
 
 pub credit_figures : EachGiven CreditGiven credit_rows
 unfolding sum_below list_below above below first_shares split priced charge ceiling charges ceilings credit
-credit_figures = search tt depth 10
+credit_figures = ((refl, refl, refl), tt)
