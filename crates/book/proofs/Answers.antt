@@ -17,7 +17,7 @@ use Rattle.rules.specs.Facts.{no_area}
 use Rattle.rules.specs.Dues.{undistributed_in}
 use Rattle.rules.specs.Rules.{area_index, area_named, unit_named, post_undistributed, asked_of, asked, refusal}
 use Rattle.rules.proofs.AcceptedRows.{fault_row}
-use Rattle.book.specs.declared.Unit as unit
+use Rattle.book.specs.declared.UnitEntry.{UnitEntry}
 use Rattle.book.specs.Books.{Book, no_entry, facts_of_book, Sound}
 use Rattle.book.specs.Entered.{Answer, posted_after, after, no_lines, post_lines, lines_of, answer, answered, entered}
 use Rattle.book.specs.Steps.{with_posted, post_answer}
@@ -27,7 +27,7 @@ use Rattle.book.proofs.Soundness.{entered_sound}
 -- what rows 1 to 10 ask of those that a record names
 abbrev pub before : Book → Decoded → Asked
 before b r =
-    let u : unit.Unit = get_or b.units (unit_named r) no_entry in
+    let u : UnitEntry = get_or b.units (unit_named r) no_entry in
     asked_of b.year (get_or b.areas (area_named r) no_area) u.entry u.last false
 
 -- rows that give y without the last row, and x with it: where y is 0 the last row decides

@@ -28,7 +28,7 @@ use Rattle.records.specs.Format.{unit_count, commitment_count, party_count}
 use Rattle.rules.specs.Facts.{Facts}
 use Rattle.rules.specs.Rules.{party_index}
 use Rattle.rules.specs.Dues.{days, watt_days_for, part_for, share_in, net_in}
-use Rattle.book.specs.declared.Unit.{Unit}
+use Rattle.book.specs.declared.UnitEntry.{UnitEntry}
 use Rattle.book.specs.Books.{Book, no_entry, commitment_in, facts_of_book, SoundUnit, SoundCommitments, Sound}
 use Rattle.book.specs.Steps.{part_most, commitment_part}
 use Rattle.book.proofs.Ranges.{watt_days_most_lem, part_most_lem, other_unit, own_part}
@@ -41,7 +41,7 @@ pub watts_at : (f : ℕ → ℤ) {l : List UnforcedWatts} → l ≡ list_below p
 watts_at f e p h = ap (λ (w : UnforcedWatts). w.0) (element_of (λ q. unforced_watts (f q)) e p (unforced_watts (pos 0)) h)
 
 -- a unit of an area is in the ranges of `capacity`
-unit_in_range_lem : (u : Unit) (a : ℕ) → SoundUnit u → u.entry.area ≡ a + 1 → unit_in_range u.entry.rating u.hours ≡ true
+unit_in_range_lem : (u : UnitEntry) (a : ℕ) → SoundUnit u → u.entry.area ≡ a + 1 → unit_in_range u.entry.rating u.hours ≡ true
 unfolding unit_in_range rates_in_range hours_in_range
 unit_in_range_lem u a s e =
     simp (

@@ -12,7 +12,8 @@ use Rattle.money.specs.AreaMoney.{due_most}
 use Rattle.records.specs.declared.format.UnitRecord.{UnitRecord}
 use Rattle.records.specs.declared.format.CommitmentRecord.{CommitmentRecord}
 use Rattle.records.specs.declared.format.HourRecord.{HourRecord}
-use Rattle.records.specs.declared.format.Record.TheVariants.{Unit, Commitment, Hour}
+use Rattle.records.specs.declared.format.Record.TheVariants as records
+use Rattle.records.specs.declared.format.Record.TheVariants.{Commitment, Hour}
 use Rattle.records.specs.Format.{area_count, unit_count, commitment_count, party_count, year_format, area_format, unit_format, commitment_format, hour_format}
 use Rattle.records.specs.Format.{load_format, post_format}
 use Rattle.records.specs.Decoded.{decoded}
@@ -25,7 +26,7 @@ use Rattle.rules.specs.Rules.{unit_index, asked, refusal}
 use Rattle.rules.proofs.ByKind.{chosen, as_made, fit}
 use Rattle.rules.proofs.Fields.{numbers_fit_lem, rule_holds}
 use Rattle.rules.proofs.AcceptedRows.{Accepted, accepted}
-use Rattle.book.specs.declared.Unit as unit
+use Rattle.book.specs.declared.UnitEntry.{UnitEntry}
 use Rattle.book.specs.Books.{Book, no_entry, facts_of_book, empty_book, no_obligations, no_sums, SoundUnit, SoundCommitment, Array, Sound}
 use Rattle.book.specs.Steps.{with_posted}
 use Rattle.book.specs.Entered.{new_unit, with_hour, posted_after, after, entered, book_after}
@@ -79,9 +80,9 @@ empty_sound =
     }
 
 -- a unit in range, without hours
-new_unit_sound : (y : ℕ) (r : UnitRecord) → in_range y (Ok (Unit r)) ≡ true → SoundUnit (new_unit r)
+new_unit_sound : (y : ℕ) (r : UnitRecord) → in_range y (Ok (records.Unit r)) ≡ true → SoundUnit (new_unit r)
 new_unit_sound y r ok =
-    let installed = (numbers_fit_lem y (Ok (Unit r)) ok).1.1 in
+    let installed = (numbers_fit_lem y (Ok (records.Unit r)) ok).1.1 in
     record {
       rating =
           record {
@@ -133,7 +134,7 @@ derated_in_service true kind derating installed e = go (eqb kind derated) refl e
     go false q e = omega arith
 
 -- a unit with an accepted hour more
-with_hour_sound : (y : ℕ) (u : unit.Unit) (h : HourRecord) → SoundUnit u → in_range y (Ok (Hour h)) ≡ true
+with_hour_sound : (y : ℕ) (u : UnitEntry) (h : HourRecord) → SoundUnit u → in_range y (Ok (Hour h)) ≡ true
     → (eqb h.kind derated && leb u.entry.rating.installed.0 h.derating) ≡ false → leb (hour_index y h) u.last ≡ false → SoundUnit (with_hour y u h)
 unfolding hour_index counted service_hour outage_hour derated_watts
 with_hour_sound y u h s ok not_out later =

@@ -11,21 +11,21 @@ use Rattle.records.specs.declared.format.AreaRecord.{AreaRecord}
 use Rattle.records.specs.declared.format.CommitmentRecord.{CommitmentRecord}
 use Rattle.records.specs.Format.{area_count, unit_count, commitment_count, party_count}
 use Rattle.rules.specs.Facts.{Facts, no_area, no_unit, no_commitment, no_hours}
-use Rattle.book.specs.declared.Unit.{Unit}
+use Rattle.book.specs.declared.UnitEntry.{UnitEntry}
 
 -- what has been entered, each at its number less 1
 pub record Book : Type 0 where
   -- 0 before a year is entered
   pub year : ℕ
   pub areas : List AreaRecord
-  pub units : List Unit
+  pub units : List UnitEntry
   pub commitments : List CommitmentRecord
   -- by area and then party
   pub obligations : List (List ℕ)
   pub posted : List (List Cents)
 
 -- no unit
-abbrev pub no_entry : Unit
+abbrev pub no_entry : UnitEntry
 no_entry = record { entry = no_unit; hours = no_hours; last = 0 }
 
 -- an area's parties without obligations, and without lines
@@ -78,7 +78,7 @@ pub record SoundRating (r : Rating) : Type 0 where
   pub efordyear_most : r.efordyear ≤ rate_most
   pub class_most : r.class ≤ 2
 
-pub record SoundUnit (u : Unit) : Type 0 where
+pub record SoundUnit (u : UnitEntry) : Type 0 where
   pub rating : SoundRating u.entry.rating
   -- a unit that has an area has a capacity
   pub installed_least : (u.entry.area ≡ 0) ⊎ (1 ≤ u.entry.rating.installed.0)

@@ -16,15 +16,15 @@ use Rattle.rules.specs.Dues.{due_in}
 use Rattle.rules.specs.declared.refusal.Refusal.{Refusal}
 use Rattle.rules.specs.Refusal.{number_of}
 use Rattle.rules.specs.Rules.{area_index, unit_index, number_index, party_index, refusal}
-use Rattle.book.specs.declared.Unit as unit
+use Rattle.book.specs.declared.UnitEntry.{UnitEntry}
 use Rattle.book.specs.Books.{Book, facts_of_book, empty_book, Sound, no_entry, no_obligations, posted_in}
 
 -- a unit as it is entered, without hours
-abbrev pub new_unit : UnitRecord → unit.Unit
+abbrev pub new_unit : UnitRecord → UnitEntry
 new_unit r = record { entry = r; hours = no_hours; last = 0 }
 
 -- a unit with one accepted Hour record more; an hour that isn't peak only moves the last hour
-abbrev pub with_hour : ℕ → unit.Unit → HourRecord → unit.Unit
+abbrev pub with_hour : ℕ → UnitEntry → HourRecord → UnitEntry
 with_hour y u h = record { entry = u.entry; hours = counted y u.hours h; last = hour_index y h }
 
 -- posted sums after a post of area a: each party's lines there now add up to its due
@@ -37,7 +37,7 @@ obligations_after b l =
     set b.obligations (area_index l.area) (set (get_or b.obligations (area_index l.area) no_obligations) (party_index l.party) l.obligation)
 
 -- the units after an accepted record: a new one, or one with an hour more
-abbrev pub units_after : Book → Decoded → List unit.Unit
+abbrev pub units_after : Book → Decoded → List UnitEntry
 units_after b r =
     of_unit
     (of_hour b.units (λ h. set b.units (unit_index h.unit) (with_hour b.year (get_or b.units (unit_index h.unit) no_entry) h)) r)

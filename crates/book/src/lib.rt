@@ -16,7 +16,7 @@ use std::marker::Model;
 
 // A unit: its record, and what its accepted hours come to; by default all zeros, which is no unit.
 #[derive(Clone, Copy, Default)]
-pub struct Unit {
+pub struct UnitEntry {
     entry: UnitRecord,
     hours: HourCounts,
     // The index of the last accepted hour; 0 where there is none, and no Option: every hour is then later.
@@ -31,7 +31,7 @@ pub struct Book {
     // 0 before a year is entered.
     year: u32,
     areas: [AreaRecord; Book::AREAS],
-    units: [Unit; Book::UNITS],
+    units: [UnitEntry; Book::UNITS],
     commitments: [CommitmentRecord; Book::COMMITMENTS],
     // By area and then party.
     obligations: [[u32; Book::PARTIES]; Book::AREAS],
@@ -67,7 +67,7 @@ impl Book {
         Self {
             year: 0,
             areas: [AreaRecord::default(); Book::AREAS],
-            units: [Unit::default(); Book::UNITS],
+            units: [UnitEntry::default(); Book::UNITS],
             commitments: [CommitmentRecord::default(); Book::COMMITMENTS],
             obligations: [[0; Book::PARTIES]; Book::AREAS],
             posted: [[Cents::zero(); Book::PARTIES]; Book::AREAS],
@@ -87,7 +87,7 @@ impl Book {
         match r {
             Record::Year(y) => self.year = y,
             Record::Area(a) => self.areas[i] = a,
-            Record::Unit(u) => self.units[j] = Unit::new(u),
+            Record::Unit(u) => self.units[j] = UnitEntry::new(u),
             Record::Commitment(c) => {
                 let k = index::<{ Book::COMMITMENTS }>(c.number);
                 self.commitments[k] = c;

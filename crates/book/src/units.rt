@@ -3,12 +3,12 @@ ghost use Rattle.std.specs.Prelude.{◌≡◌};
 ghost use Rattle.book.specs.Books.{SoundUnit};
 ghost use Rattle.book.specs.Entered.{new_unit, with_hour};
 
-use crate::Unit;
+use crate::UnitEntry;
 use capacity::rating::HourCounts;
 use records::format::{HourRecord, UnitRecord};
 use rules::hour::{hour_counts, hour_index};
 
-impl Unit {
+impl UnitEntry {
     pub(crate) fn new(entry: UnitRecord) -> Self
         ensures { result ≡ new_unit entry }
     {

@@ -19,7 +19,7 @@ use Rattle.rules.specs.Rules.{index, area_index, unit_index, party_index, asked}
 use Rattle.rules.proofs.Named.{index_below, named_by, named_index}
 use Rattle.rules.proofs.AcceptedRows.{Accepted}
 use Rattle.rules.proofs.ByKind.{paired, as_made, fit, by_kind}
-use Rattle.book.specs.declared.Unit as unit
+use Rattle.book.specs.declared.UnitEntry.{UnitEntry}
 use Rattle.book.specs.Books.{Book, no_entry, no_obligations, no_sums, obligation_in, facts_of_book, posted_in, empty_book, Sound}
 use Rattle.book.specs.Entered.{new_unit, with_hour, posted_after, obligations_after, units_after, after}
 use Rattle.promise.specs.Reckoning.{year_of, latest_area, unit_of, latest_commitment, latest_obligation, accepted_hours, sum_over, last_index, facts_of_list}
@@ -27,10 +27,10 @@ use Rattle.promise.specs.Reckoning.{counts_of, reckoned_due, reckoned_paid}
 use Rattle.promise.proofs.AcceptedLists.{Kept, before_year}
 
 -- a unit with these hours, and the unit at index k as the list has it
-abbrev unit_with : ℕ → UnitRecord → List HourRecord → unit.Unit
+abbrev unit_with : ℕ → UnitRecord → List HourRecord → UnitEntry
 unit_with y entry hours = record { entry = entry; hours = counts_of y hours; last = last_index y hours }
 
-abbrev unit_in : List Decoded → ℕ → unit.Unit
+abbrev unit_in : List Decoded → ℕ → UnitEntry
 unit_in acc k = unit_with (year_of acc) (unit_of acc k) (accepted_hours acc k)
 
 pub record Agrees (b : Book) (acc : List Decoded) : Type 0 where

@@ -15,7 +15,8 @@ use Rattle.capacity.proofs.AllFigures.{capacity_figures}
 use Rattle.money.specs.Figures.{credit_rows}
 use Rattle.money.proofs.AllFigures.{credit_figures}
 use Rattle.records.specs.Format.{number_at}
-use Rattle.records.specs.declared.format.Record.TheVariants.{Year, Area, Unit, Commitment, Load, Post}
+use Rattle.records.specs.declared.format.Record.TheVariants as records
+use Rattle.records.specs.declared.format.Record.TheVariants.{Year, Area, Commitment, Load, Post}
 use Rattle.records.specs.Decoded.{is_broken, of_length, framed, decoded}
 use Rattle.records.specs.Kinds.{Decoded}
 use Rattle.rules.specs.Refusal.{days_fit, numbers_fit, in_range, refusal_of}
@@ -33,7 +34,7 @@ abbrev after₂ : List Decoded
 after₂ = Ok (Area (area₁ 9000)) ∷ Ok (Year 2010) ∷ []
 
 abbrev after₄ : List Decoded
-after₄ = Ok (Unit unit₂) ∷ Ok (Unit unit₁) ∷ after₂
+after₄ = Ok (records.Unit unit₂) ∷ Ok (records.Unit unit₁) ∷ after₂
 
 pub before_loads_run : (ss : List (List ℕ)) {rest : List Answered} {after : List Decoded} → Fed unloaded ss rest after
     → Fed [] (before_loads ++ ss) (before_loads_answers ++ rest) after
@@ -42,8 +43,8 @@ unfolding number_at is_broken of_length framed decoded within index leap_year de
 before_loads_run ss more =
     accepted_next (year 2010) (Ok (Year 2010)) [] _ refl refl refl
     (accepted_next (area 1 9000) (Ok (Area (area₁ 9000))) (Ok (Year 2010) ∷ []) _ refl refl refl
-    (accepted_next (unit 1 1 4500000 30000 5000 15000 0) (Ok (Unit unit₁)) after₂ _ refl refl refl
-    (accepted_next (unit 2 1 1000000 0 10000 0 0) (Ok (Unit unit₂)) (Ok (Unit unit₁) ∷ after₂) _ refl refl refl
+    (accepted_next (unit 1 1 4500000 30000 5000 15000 0) (Ok (records.Unit unit₁)) after₂ _ refl refl refl
+    (accepted_next (unit 2 1 1000000 0 10000 0 0) (Ok (records.Unit unit₂)) (Ok (records.Unit unit₁) ∷ after₂) _ refl refl refl
     (accepted_next (commitment 1 1 5 0 364 4000000) (Ok (Commitment commitment₁)) after₄ _ refl refl refl
     (accepted_next (commitment 2 2 6 0 364 1000000) (Ok (Commitment commitment₂)) (Ok (Commitment commitment₁) ∷ after₄) ss refl refl refl more)))))
 

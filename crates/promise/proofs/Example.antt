@@ -23,7 +23,8 @@ use Rattle.records.specs.declared.format.AreaRecord.{AreaRecord}
 use Rattle.records.specs.declared.format.UnitRecord.{UnitRecord}
 use Rattle.records.specs.declared.format.CommitmentRecord.{CommitmentRecord}
 use Rattle.records.specs.declared.format.LoadRecord.{LoadRecord}
-use Rattle.records.specs.declared.format.Record.TheVariants.{Year, Area, Unit, Commitment, Load, Post}
+use Rattle.records.specs.declared.format.Record.TheVariants as records
+use Rattle.records.specs.declared.format.Record.TheVariants.{Year, Area, Commitment, Load, Post}
 use Rattle.records.specs.Format.{party_count}
 use Rattle.records.specs.Kinds.{Decoded}
 use Rattle.rules.specs.Facts.{Facts, no_area, no_unit, no_commitment, no_hours}
@@ -58,7 +59,7 @@ abbrev pub load₇ : LoadRecord
 load₇ = record { area = 1; party = 7; obligation = 600000 }
 
 abbrev pub unloaded : List Decoded
-unloaded = Ok (Commitment commitment₂) ∷ Ok (Commitment commitment₁) ∷ Ok (Unit unit₂) ∷ Ok (Unit unit₁) ∷ Ok (Area (area₁ 9000)) ∷ Ok (Year 2010) ∷ []
+unloaded = Ok (Commitment commitment₂) ∷ Ok (Commitment commitment₁) ∷ Ok (records.Unit unit₂) ∷ Ok (records.Unit unit₁) ∷ Ok (Area (area₁ 9000)) ∷ Ok (Year 2010) ∷ []
 
 abbrev pub loaded : List Decoded
 loaded = Ok (Load load₇) ∷ Ok (Load load₅) ∷ unloaded

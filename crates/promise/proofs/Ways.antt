@@ -19,7 +19,8 @@ use Rattle.money.specs.AreaMoney.{priced, charge, ceiling, charges, ceilings, cr
 use Rattle.money.specs.Lines.{line}
 use Rattle.records.specs.declared.format.CommitmentRecord.{CommitmentRecord}
 use Rattle.records.specs.declared.format.HourRecord.{HourRecord}
-use Rattle.records.specs.declared.format.Record.TheVariants.{Year, Area, Unit, Commitment, Hour, Load, Post}
+use Rattle.records.specs.declared.format.Record.TheVariants as records
+use Rattle.records.specs.declared.format.Record.TheVariants.{Year, Area, Commitment, Hour, Load, Post}
 use Rattle.records.specs.Format.{party_count, number_at}
 use Rattle.records.specs.Decoded.{is_broken, of_length, framed, decoded}
 use Rattle.records.specs.Kinds.{Decoded}
@@ -52,7 +53,7 @@ abbrev second₂ : List Decoded
 second₂ = Ok (Area (area₁ 100)) ∷ Ok (Year 2010) ∷ []
 
 abbrev second₄ : List Decoded
-second₄ = Ok (Unit unit₁) ∷ Ok (Unit unit₂) ∷ second₂
+second₄ = Ok (records.Unit unit₁) ∷ Ok (records.Unit unit₂) ∷ second₂
 
 abbrev second₆ : List Decoded
 second₆ = Ok (Load load₇) ∷ Ok (Commitment small₁) ∷ second₄
@@ -208,8 +209,8 @@ unfolding number_at is_broken of_length framed decoded within index days_fit der
 another_fed =
     accepted_next (year 2010) (Ok (Year 2010)) [] _ refl refl refl
     (accepted_next (area 1 100) (Ok (Area (area₁ 100))) (Ok (Year 2010) ∷ []) _ refl refl refl
-    (accepted_next (unit 2 1 1000000 0 10000 0 0) (Ok (Unit unit₂)) second₂ _ refl refl refl
-    (accepted_next (unit 1 1 4500000 30000 5000 15000 0) (Ok (Unit unit₁)) (Ok (Unit unit₂) ∷ second₂) _ refl refl refl
+    (accepted_next (unit 2 1 1000000 0 10000 0 0) (Ok (records.Unit unit₂)) second₂ _ refl refl refl
+    (accepted_next (unit 1 1 4500000 30000 5000 15000 0) (Ok (records.Unit unit₁)) (Ok (records.Unit unit₂) ∷ second₂) _ refl refl refl
     (accepted_next (commitment 1 1 5 0 364 1) (Ok (Commitment small₁)) second₄ _ refl refl refl
     (accepted_next (load 1 7 600000) (Ok (Load load₇)) (Ok (Commitment small₁) ∷ second₄) _ refl refl refl
     (accepted_next derated (Ok (Hour hour₁)) second₆ _ refl refl refl

@@ -4,7 +4,8 @@ use mir.Val.{has_key}
 use types.Run.{OneOf, miss}
 use Rattle.numbers.specs.Lists.{element}
 use Rattle.records.specs.declared.format.Fault.TheVariants.{Broken}
-use Rattle.records.specs.declared.format.Record.TheVariants.{Year, Area, Unit, Commitment, Hour, Load, Post}
+use Rattle.records.specs.declared.format.Record.TheVariants as records
+use Rattle.records.specs.declared.format.Record.TheVariants.{Year, Area, Commitment, Hour, Load, Post}
 use Rattle.records.specs.Format.{Format, formats}
 use Rattle.records.specs.Kinds.{Decoded, tag_of_record, numbers_of, area_from, unit_from, commitment_from, hour_from, load_from, is_of}
 
@@ -12,7 +13,7 @@ abbrev pub made : ℕ → List ℕ → Decoded
 made t l =
     cond (eqb t 1) (Ok (Year (element l 0)))
     (cond (eqb t 2) (Ok (Area (area_from l)))
-    (cond (eqb t 3) (Ok (Unit (unit_from l)))
+    (cond (eqb t 3) (Ok (records.Unit (unit_from l)))
     (cond (eqb t 4) (Ok (Commitment (commitment_from l)))
     (cond (eqb t 5) (Ok (Hour (hour_from l)))
     (cond (eqb t 6) (Ok (Load (load_from l)))
@@ -23,7 +24,7 @@ rebuilt : (r : Decoded) → 0 < tag_of_record r → r ≡ made (tag_of_record r)
 rebuilt (Err f) h = absurd (omega arith)
 rebuilt (Ok (Year y)) h = refl
 rebuilt (Ok (Area a)) h = refl
-rebuilt (Ok (Unit u)) h = refl
+rebuilt (Ok (records.Unit u)) h = refl
 rebuilt (Ok (Commitment c)) h = refl
 rebuilt (Ok (Hour k)) h = refl
 rebuilt (Ok (Load l)) h = refl

@@ -2,7 +2,8 @@
 use Rattle.std.specs.Prelude.{Bool, cond, not, ◌||◌, List, ℕ, ◌+◌, eqb, ltb, length, Option, Some, None, Ok, Err}
 use Rattle.numbers.specs.Lists.{element}
 use Rattle.records.specs.declared.format.Fault.TheVariants.{Broken, UnknownTag, WrongLength}
-use Rattle.records.specs.declared.format.Record.TheVariants.{Year, Area, Unit, Commitment, Hour, Load, Post}
+use Rattle.records.specs.declared.format.Record.TheVariants as records
+use Rattle.records.specs.declared.format.Record.TheVariants.{Year, Area, Commitment, Hour, Load, Post}
 use Rattle.records.specs.Format.{Format, number_at, values_of, year_format, area_format, unit_format, commitment_format, hour_format, load_format, post_format}
 use Rattle.records.specs.Kinds.{Decoded, area_from, unit_from, commitment_from, hour_from, load_from, of_hour}
 use Rattle.records.specs.declared.format.HourRecord.{HourRecord}
@@ -32,7 +33,7 @@ unfoldable pub framed : List ℕ → Decoded
 framed s =
     of_tag year_format s (λ l. Year (element l 0))
     (of_tag area_format s (λ l. Area (area_from l))
-    (of_tag unit_format s (λ l. Unit (unit_from l))
+    (of_tag unit_format s (λ l. records.Unit (unit_from l))
     (of_tag commitment_format s (λ l. Commitment (commitment_from l))
     (of_tag hour_format s (λ l. Hour (hour_from l))
     (of_tag load_format s (λ l. Load (load_from l))

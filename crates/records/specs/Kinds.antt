@@ -11,7 +11,8 @@ use Rattle.records.specs.declared.format.LoadRecord.{LoadRecord}
 use Rattle.records.specs.declared.format.Fault.{Fault}
 use Rattle.records.specs.declared.format.Fault.TheVariants.{Broken, UnknownTag, WrongLength}
 use Rattle.records.specs.declared.format.Record.{Record}
-use Rattle.records.specs.declared.format.Record.TheVariants.{Year, Area, Unit, Commitment, Hour, Load, Post}
+use Rattle.records.specs.declared.format.Record.TheVariants as records
+use Rattle.records.specs.declared.format.Record.TheVariants.{Year, Area, Commitment, Hour, Load, Post}
 use Rattle.records.specs.Format.{Format, format, year_format, area_format, unit_format, commitment_format, hour_format, load_format, post_format}
 
 -- what a string of bytes is decoded to: the record of its kind, or what the frame refuses it for
@@ -29,7 +30,7 @@ abbrev pub format_of : Decoded → Format
 format_of (Err f) = format 0 0 []
 format_of (Ok (Year y)) = year_format
 format_of (Ok (Area a)) = area_format
-format_of (Ok (Unit u)) = unit_format
+format_of (Ok (records.Unit u)) = unit_format
 format_of (Ok (Commitment c)) = commitment_format
 format_of (Ok (Hour h)) = hour_format
 format_of (Ok (Load l)) = load_format
@@ -47,7 +48,7 @@ abbrev pub numbers_of : Decoded → List ℕ
 numbers_of (Err f) = fault_number f ∷ []
 numbers_of (Ok (Year y)) = y ∷ []
 numbers_of (Ok (Area a)) = a.area ∷ a.price ∷ []
-numbers_of (Ok (Unit u)) = u.unit ∷ u.area ∷ rating_numbers u.rating
+numbers_of (Ok (records.Unit u)) = u.unit ∷ u.area ∷ rating_numbers u.rating
 numbers_of (Ok (Commitment c)) = c.number ∷ c.unit ∷ c.party ∷ c.first ∷ c.last ∷ c.watts ∷ []
 numbers_of (Ok (Hour h)) = h.unit ∷ h.month ∷ h.day ∷ h.hour ∷ h.kind ∷ h.derating ∷ []
 numbers_of (Ok (Load l)) = l.area ∷ l.party ∷ l.obligation ∷ []

@@ -4,7 +4,8 @@
 ghost use Rattle.std.specs.Prelude.{◌≡◌, ◌≢◌, false, ◌+◌, ◌≤◌, ◌<◌, length, MatchResult, Ok};
 ghost use Rattle.numbers.specs.Lists.{element};
 ghost use Rattle.records.specs.declared.format.Fault.TheVariants.{WrongLength};
-ghost use Rattle.records.specs.declared.format.Record.TheVariants.{Year, Area, Unit, Commitment, Hour, Load, Post};
+ghost use Rattle.records.specs.declared.format.Record.TheVariants as records;
+ghost use Rattle.records.specs.declared.format.Record.TheVariants.{Year, Area, Commitment, Hour, Load, Post};
 ghost use Rattle.records.specs.Format.{number_at, bytes_of, values_of, year_format, area_format, unit_format, commitment_format, hour_format, load_format};
 ghost use Rattle.records.specs.Format.{post_format};
 ghost use Rattle.records.specs.Kinds.{area_from, unit_from, commitment_from, hour_from, load_from};
@@ -106,7 +107,7 @@ impl<'a> Framed<'a> {
     }
 
     fn unit(self) -> Result<Record, Fault>
-        ensures { result ≡ of_length unit_format self.entry.bytes.now (λ l. Unit (unit_from l)) }
+        ensures { result ≡ of_length unit_format self.entry.bytes.now (λ l. records.Unit (unit_from l)) }
     {
         self.has_length(UNIT_BYTES)?;
         let s = self.bytes;

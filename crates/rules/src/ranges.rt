@@ -4,7 +4,8 @@
 ghost use Rattle.std.specs.Prelude.{◌≡◌, drop, Ok};
 ghost use Rattle.numbers.specs.Range.{within};
 ghost use Rattle.capacity.specs.Shortfall.{installed_most};
-ghost use Rattle.records.specs.declared.format.Record.TheVariants.{Year, Area, Unit, Commitment, Hour, Load, Post};
+ghost use Rattle.records.specs.declared.format.Record.TheVariants as records;
+ghost use Rattle.records.specs.declared.format.Record.TheVariants.{Year, Area, Commitment, Hour, Load, Post};
 ghost use Rattle.records.specs.Format.{rate_at, unit_format, fields_fit};
 ghost use Rattle.records.specs.Kinds.{rating_numbers};
 ghost use Rattle.rules.specs.Refusal.{numbers_fit, derating_fits, in_range};
@@ -68,7 +69,7 @@ pub(crate) fn area_fits(a: AreaRecord) -> bool
 }
 
 pub(crate) fn unit_fits(u: UnitRecord) -> bool
-    ensures { result ≡ numbers_fit (Ok (Unit u)) }
+    ensures { result ≡ numbers_fit (Ok (records.Unit u)) }
 {
     is_one_of::<UNITS>(u.unit) && is_one_of::<AREAS>(u.area) && rating_fits(u.rating)
 }

@@ -2,7 +2,8 @@
 #![tactic(auto, unfolding(crate::specs::Refusal::refusal_of, crate::specs::Refusal::in_range, crate::specs::Hours::hour_index, records::specs::Kinds::fault_number))]
 
 ghost use Rattle.std.specs.Prelude.{◌≡◌, false, ◌&&◌, eqb, leb, cond, Ok, Err};
-ghost use Rattle.records.specs.declared.format.Record.TheVariants.{Year, Area, Unit, Commitment, Hour, Load, Post};
+ghost use Rattle.records.specs.declared.format.Record.TheVariants as records;
+ghost use Rattle.records.specs.declared.format.Record.TheVariants.{Year, Area, Commitment, Hour, Load, Post};
 ghost use Rattle.rules.specs.Hours.{derated};
 ghost use Rattle.rules.specs.declared.refusal.Refusal.TheVariants.{NoYear, OutOfRange};
 ghost use Rattle.rules.specs.Refusal.{refusal_of, row_number, number_of, IsRow};
@@ -138,7 +139,7 @@ impl Asked {
 
     // No twin of `admit_post`, which has the same shape: they ask different rows.
     fn admit_unit(self, r: UnitRecord) -> Result<(), Refusal>
-        ensures { number_of result ≡ refusal_of self (Ok (Unit r)) }
+        ensures { number_of result ≡ refusal_of self (Ok (records.Unit r)) }
     {
         self.admit_fit(unit_fits(r))?;
         if !self.area {

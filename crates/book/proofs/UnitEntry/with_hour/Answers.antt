@@ -1,5 +1,5 @@
 use Rattle.rules.specs.Hours.{counted}
-use Rattle.book.proofs.Unit.with_hour.Goals as goal
+use Rattle.book.proofs.UnitEntry.with_hour.Goals as goal
 
 pub returns : goal.returns
 unfolding counted
