@@ -1,13 +1,13 @@
 -- An area's nets unit by unit: each unit's share is one split, and in a sound book no guard of `capacity` is met.
-use Rattle.std.proofs.Common.{◌≡◌, refl, sym, ap, ◌∙◌, Bool, true, false, cond, List, ◌⊎◌, inl, inr, ℕ, ◌+◌, ◌-◌, ◌*◌, ◌≤◌, ◌<◌, zero-le, le_refl}
-use Rattle.std.proofs.Common.{le_trans, add-one, arith, ℤ, pos, nat_abs, ◌+ℤ◌, eqb, length, get_or, set, length-set, ext_get_or, eqb-true, eq-eqb, ne_eqb, le-leb}
+use Rattle.std.proofs.Common.{◌≡◌, refl, sym, ap, ◌∙◌, Bool, true, false, cond, List, ◌⊎◌, inl, inr, ℕ, ◌+◌, ◌*◌, ◌≤◌, ◌<◌, zero-le, le_refl}
+use Rattle.std.proofs.Common.{le_trans, add-one, arith, ℤ, pos, nat_abs, ◌+ℤ◌, eqb, length, get_or, set, length-set, ext_get_or, eq-eqb, ne_eqb, le-leb}
 use lib.IntN.{+ℤ_idr}
 use Rattle.numbers.specs.Sum.{sum_below}
 use Rattle.numbers.specs.Range.{within}
 use Rattle.numbers.specs.Lists.{list_below, element}
 use Rattle.numbers.specs.Signed.{above, below, sum_below_ℤ}
 use Rattle.numbers.specs.Split.{with_sign, split_signed}
-use Rattle.numbers.proofs.Sums.{sum_grows, sum_one_more, sum_same, sum_at_most, sum_exchange, sum_bounded, sum_picked}
+use Rattle.numbers.proofs.Sums.{sum_one_more, sum_same, sum_bounded}
 use Rattle.numbers.proofs.Tests.{within_holds}
 use Rattle.numbers.proofs.Lists.{length_below, element_below, list_same}
 use Rattle.numbers.proofs.SignedSums.{sum_same_ℤ}
@@ -16,7 +16,7 @@ use Rattle.calendar.specs.Gregorian.{leap_year}
 use Rattle.calendar.specs.DeliveryYear.{delivery_days}
 use Rattle.capacity.specs.declared.UnforcedWatts.{UnforcedWatts}
 use Rattle.capacity.specs.Quantities.{unforced_watts, watts_of}
-use Rattle.capacity.specs.Shortfall.{installed_most, hours_most, watt_days_most, watt_days, part_of, watt_days_of, limited_shortfall, rates_in_range, hours_in_range}
+use Rattle.capacity.specs.Shortfall.{installed_most, hours_most, watt_days_most, watt_days, unit_watt_days, part_of, limited_shortfall, rates_in_range, hours_in_range}
 use Rattle.capacity.specs.Shortfall.{unit_in_range, year_in_range, watt_days_answer}
 use Rattle.capacity.specs.Shares.{unit_share, net, shares_answer, net_with, nets_answer}
 use Rattle.capacity.proofs.Capacities.{limited_shortfall_size}
@@ -27,7 +27,8 @@ use Rattle.records.specs.declared.format.CommitmentRecord.{CommitmentRecord}
 use Rattle.records.specs.Format.{unit_count, commitment_count, party_count}
 use Rattle.rules.specs.Facts.{Facts}
 use Rattle.rules.specs.Rules.{party_index}
-use Rattle.rules.specs.Dues.{days, watt_days_for, part_for, share_in, net_in}
+use Rattle.rules.specs.Dues.{days, watt_days_for, watt_days_in, part_for, share_in, net_in}
+use Rattle.rules.proofs.WattDays.{parts_add_up}
 use Rattle.book.specs.declared.UnitEntry.{UnitEntry}
 use Rattle.book.specs.Books.{Book, no_entry, commitment_in, facts_of_book, SoundUnit, SoundCommitments, Sound}
 use Rattle.book.specs.Steps.{part_most, commitment_part}
@@ -70,27 +71,17 @@ days_in_range y = go (leap_year (y + 1))
     go true = refl
     go false = refl
 
--- a commitment counts for one party at most
-one_party : (m i x : ℕ) → sum_below m (λ j. cond (eqb i (j + 1)) x 0) ≤ x
-one_party m i x =
-    le_trans (sum_at_most m _ (λ j. cond (eqb (i - 1) j) x 0) (λ j h. each j (eqb i (j + 1)) refl))
-    (omega (arith, sum_grows m (m + i + 1) (λ j. cond (eqb (i - 1) j) x 0) (omega arith), sum_picked (m + i + 1) (i - 1) x (omega arith)))
-  where
-    each : (j : ℕ) (t : Bool) → eqb i (j + 1) ≡ t → cond t x 0 ≤ cond (eqb (i - 1) j) x 0
-    each j true q = rw (eq-eqb (i - 1) j (omega (arith, eqb-true i (j + 1) q))) (le_refl x)
-    each j false q = zero-le
-
 -- a unit's limited S where it is in the area, which is what is split
 abbrev amount_in : Facts → ℕ → ℕ → ℤ
-amount_in F a u = cond (eqb (F.unit u).area (a + 1)) (limited_shortfall (F.unit u).rating (F.hours u) (watt_days_of (part_for F.commitment u)) (days F)) (pos 0)
+amount_in F a u = cond (eqb (F.unit u).area (a + 1)) (limited_shortfall (F.unit u).rating (F.hours u) (watt_days_in F.commitment u) (days F)) (pos 0)
 
 share_is_split : (F : Facts) (a u p : ℕ) → share_in F a u p ≡ split_signed (amount_in F a u) party_count (part_for F.commitment u) p
 unfolding share_in unit_share split_signed with_sign
 share_is_split F a u p = go (eqb (F.unit u).area (a + 1))
   where
     go : (t : Bool)
-        → cond t (unit_share (F.unit u).rating (F.hours u) (part_for F.commitment u) (days F) p) (pos 0)
-        ≡ split_signed (cond t (limited_shortfall (F.unit u).rating (F.hours u) (watt_days_of (part_for F.commitment u)) (days F)) (pos 0)) party_count (part_for F.commitment u) p
+        → cond t (unit_share (F.unit u).rating (F.hours u) (watt_days_in F.commitment u) (part_for F.commitment u) (days F) p) (pos 0)
+        ≡ split_signed (cond t (limited_shortfall (F.unit u).rating (F.hours u) (watt_days_in F.commitment u) (days F)) (pos 0)) party_count (part_for F.commitment u) p
     go true = refl
     go false = ap pos (sym (no_amount party_count (part_for F.commitment u) p))
 
@@ -117,17 +108,14 @@ module _ (b : Book) where
   amounts_small : Sound b → (a u : ℕ) → nat_abs (amount_in F a u) ≤ installed_most
   amounts_small sound a u = go (eqb (F.unit u).area (a + 1))
     where
-      go : (t : Bool) → nat_abs (cond t (limited_shortfall (F.unit u).rating (F.hours u) (watt_days_of (part u)) (days F)) (pos 0)) ≤ installed_most
-      go true = le_trans (limited_shortfall_size (F.unit u).rating (F.hours u) (watt_days_of (part u)) (days F)) (sound.units.each u).rating.installed_bound
+      go : (t : Bool) → nat_abs (cond t (limited_shortfall (F.unit u).rating (F.hours u) (watt_days_in F.commitment u) (days F)) (pos 0)) ≤ installed_most
+      go true = le_trans (limited_shortfall_size (F.unit u).rating (F.hours u) (watt_days_in F.commitment u) (days F)) (sound.units.each u).rating.installed_bound
       go false = zero-le
 
   -- a unit's watt-days are those of 64 commitments at most
-  watt_days_small : Sound b → (u : ℕ) → watt_days_of (part u) ≤ watt_days_most
-  unfolding watt_days_of part_for part_of watt_days_for
-  watt_days_small sound u =
-      rw (sum_exchange party_count commitment_count (λ p k. cond (eqb (F.commitment k).party (p + 1)) (watt_days_for F.commitment u k) 0))
-      (sum_bounded commitment_count commitment_count part_most _ (le_refl commitment_count)
-      (λ k. le_trans (one_party party_count (F.commitment k).party (watt_days_for F.commitment u k)) (go k (eqb (F.commitment k).unit (u + 1)))))
+  watt_days_small : Sound b → (u : ℕ) → watt_days_in F.commitment u ≤ watt_days_most
+  unfolding watt_days_in unit_watt_days watt_days_for
+  watt_days_small sound u = sum_bounded commitment_count commitment_count part_most _ (le_refl commitment_count) (λ k. go k (eqb (F.commitment k).unit (u + 1)))
     where
       go : (k : ℕ) (t : Bool) → cond t (watt_days (F.commitment k).watts (F.commitment k).first (F.commitment k).last) 0 ≤ part_most
       go k true = watt_days_most_lem (sound.commitments.each k)
@@ -142,11 +130,12 @@ module _ (b : Book) where
         eq-eqb _ _ e,
         unit_in_range_lem (get_or b.units u no_entry) a (sound.units.each u) e,
         watt_days_same (element (list_below party_count (part u))) (part u) given,
+        parts_add_up F.commitment (λ k. (sound.commitments.each k).party) u,
         le-leb _ _ (watt_days_small sound u),
         days_in_range b.year,
       )
-      (watts_at (unit_share (F.unit u).rating (F.hours u) (element (list_below party_count (part u))) (days F)) refl p h
-      ∙ shares_same (F.unit u).rating (F.hours u) _ (part u) (days F) given p h)
+      (watts_at (unit_share (F.unit u).rating (F.hours u) (watt_days_in F.commitment u) (element (list_below party_count (part u))) (days F)) refl p h
+      ∙ shares_same (F.unit u).rating (F.hours u) _ _ (part u) (days F) given p h)
     where
       given : (k : ℕ) → k < party_count → element (list_below party_count (part u)) k ≡ part u k
       given k below = element_below party_count (part u) k 0 below

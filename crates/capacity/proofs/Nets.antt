@@ -63,7 +63,7 @@ pub watt_days_same : (w v : ℕ → ℕ) → ((p : ℕ) → p < 16 → w p ≡ v
 unfolding watt_days_of
 watt_days_same w v same = sum_same 16 w v same
 
-pub shares_same : (r : Rating) (hours : HourCounts) (w v : ℕ → ℕ) (days : ℕ) → ((p : ℕ) → p < 16 → w p ≡ v p)
-    → (p : ℕ) → p < 16 → unit_share r hours w days p ≡ unit_share r hours v days p
+pub shares_same : (r : Rating) (hours : HourCounts) (v : ℕ) (w u : ℕ → ℕ) (days : ℕ) → ((p : ℕ) → p < 16 → w p ≡ u p)
+    → (p : ℕ) → p < 16 → unit_share r hours v w days p ≡ unit_share r hours v u days p
 unfolding unit_share split_signed
-shares_same r hours w v days same p h = rw (watt_days_same w v same, split_same _ 16 w v same p h)
+shares_same r hours v w u days same p h = rw (split_same _ 16 w u same p h)

@@ -10,18 +10,18 @@ use Rattle.capacity.specs.declared.rating.HourCounts.{HourCounts}
 use Rattle.capacity.specs.Shortfall.{watt_days_of, limited_shortfall, unit_in_range, year_in_range}
 
 -- A unit's limited S is split over parties, ascending, by their parts of V. If V = 0 it has no shares.
-unfoldable pub unit_share : Rating → HourCounts → (ℕ → ℕ) → ℕ → ℕ → ℤ
-unit_share r h part days p = split_signed (limited_shortfall r h (watt_days_of part) days) 16 part p
+unfoldable pub unit_share : Rating → HourCounts → ℕ → (ℕ → ℕ) → ℕ → ℕ → ℤ
+unit_share r h v part days p = split_signed (limited_shortfall r h v days) 16 part p
 
 -- N: the sum of a party's shares in an area, over its units
 unfoldable pub net : ℕ → (ℕ → ℕ → ℤ) → ℕ → ℤ
 net units share p = sum_below_ℤ units (λ u. share u p)
 
--- What the public functions answer. Out of the ranges of a unit and its year there are no shares.
+-- What the public functions answer, given V by its parts. Out of the ranges of a unit and its year there are no shares.
 unfoldable pub shares_answer : Rating → HourCounts → List ℕ → ℕ → List UnforcedWatts
 shares_answer r h parts days =
     cond (unit_in_range r h && year_in_range (watt_days_of (element parts)) days)
-    (list_below 16 (λ p. unforced_watts (unit_share r h (element parts) days p)))
+    (list_below 16 (λ p. unforced_watts (unit_share r h (watt_days_of (element parts)) (element parts) days p)))
     (list_below 16 (λ p. unforced_watts (pos 0)))
 
 -- the most watts of a party's net, and of all parties' nets in an area: 32 units × 5,000,000

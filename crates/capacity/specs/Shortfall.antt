@@ -20,8 +20,7 @@ unit_watt_days n wd = sum_below n wd
 unfoldable pub part_of : ℕ → (ℕ → ℕ) → (ℕ → ℕ) → ℕ → ℕ
 part_of n wd party p = sum_below n (λ k. cond (eqb (party k) p) (wd k) 0)
 
--- V from the sixteen parts, which is how the functions are given it; the law `parts-add-up` says that it is the same, and for
--- every book PartsAddUp of promise's Laws does
+-- V as the public functions are given it, by its sixteen parts: the law `parts_add_up` says that they add up to V
 unfoldable pub watt_days_of : (ℕ → ℕ) → ℕ
 watt_days_of part = sum_below 16 part
 

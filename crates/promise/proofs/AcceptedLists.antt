@@ -18,14 +18,11 @@ use Rattle.rules.specs.Hours.{hour_index}
 use Rattle.rules.specs.Dues.{due_in, undistributed_in}
 use Rattle.rules.specs.Rules.{area_index, unit_index, asked}
 use Rattle.rules.proofs.Named.{named_index}
+use Rattle.rules.proofs.WattDays.{PartyKnown}
 use Rattle.rules.proofs.AcceptedRows.{Accepted}
 use Rattle.rules.proofs.ByKind.{chosen, by_key, by_key_each, as_made, fit}
 use Rattle.promise.specs.Reckoning.{year_of, unit_of, latest_commitment, accepted_hours, last_index, facts_of_list, reckoned_due, reckoned_paid}
 use Rattle.promise.proofs.Falling.{Falling}
-
--- a commitment that is entered has one of the sixteen parties
-abbrev pub PartyKnown : CommitmentRecord → Type 0
-PartyKnown c = (c.unit ≡ 0) ⊎ (within 1 party_count c.party ≡ true)
 
 -- amounts of the sixteen parties add up to 0
 abbrev Balanced : (ℕ → ℤ) → Type 0

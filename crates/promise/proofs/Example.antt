@@ -12,7 +12,7 @@ use Rattle.calendar.specs.Gregorian.{leap_year}
 use Rattle.calendar.specs.DeliveryYear.{delivery_days}
 use Rattle.capacity.specs.declared.rating.HourCounts.{HourCounts}
 use Rattle.capacity.specs.Figures.{rated}
-use Rattle.capacity.specs.Shortfall.{watt_days, part_of, watt_days_of, committed, unforced, available, quarters, limit, limited, unit_shortfall, unit_limit}
+use Rattle.capacity.specs.Shortfall.{watt_days, unit_watt_days, part_of, committed, unforced, available, quarters, limit, limited, unit_shortfall, unit_limit}
 use Rattle.capacity.specs.Shortfall.{limited_shortfall}
 use Rattle.capacity.specs.Shares.{unit_share, net}
 use Rattle.capacity.proofs.Nets.{shares_same}
@@ -30,7 +30,7 @@ use Rattle.records.specs.Kinds.{Decoded}
 use Rattle.rules.specs.Facts.{Facts, no_area, no_unit, no_commitment, no_hours}
 use Rattle.rules.specs.Refusal.{numbers_fit, in_range, refusal_of}
 use Rattle.rules.specs.Rules.{index, asked}
-use Rattle.rules.specs.Dues.{watt_days_for, part_for, share_in, net_in, due_in, undistributed_in}
+use Rattle.rules.specs.Dues.{watt_days_for, watt_days_in, part_for, share_in, net_in, due_in, undistributed_in}
 use Rattle.promise.specs.Reckoning.{year_of, latest_area, unit_of, latest_commitment, latest_obligation, accepted_hours, sum_over, last_index, facts_of_list}
 use Rattle.promise.specs.Reckoning.{reckoned_due, reckoned_paid, reckoned_line}
 use Rattle.promise.specs.Figures.{no_lines, of_three, first_lines}
@@ -106,7 +106,7 @@ module _ (price : ℕ) (o : ℕ → ℕ → ℕ) (hours : ℕ → HourCounts) (l
 
   -- the shares of the two units, added up
   abbrev pub added : ℕ → ℤ
-  added p = (pos 0 +ℤ unit_share unit₁.rating (hours 0) (parts 1460000000 0) 365 p) +ℤ unit_share unit₂.rating (hours 1) (parts 0 365000000) 365 p
+  added p = (pos 0 +ℤ unit_share unit₁.rating (hours 0) 1460000000 (parts 1460000000 0) 365 p) +ℤ unit_share unit₂.rating (hours 1) 365000000 (parts 0 365000000) 365 p
 
   no_unit_lem : (k : ℕ) → facts.unit (suc (suc k)) ≡ no_unit
   no_unit_lem k = rw (ne_eqb 2 (suc (suc k) + 1) (λ e. omega arith), ne_eqb 1 (suc (suc k) + 1) (λ e. omega arith))
@@ -122,13 +122,23 @@ module _ (price : ℕ) (o : ℕ → ℕ → ℕ) (hours : ℕ → HourCounts) (l
   unfolding part_for part_of watt_days_for watt_days
   part_second p = sum_of_two 62 _ (λ k. rw (no_commitment_lem k, ne_eqb 0 (p + 1) (λ e. omega arith)))
 
+  watt_days_first : watt_days_in facts.commitment 0 ≡ 1460000000
+  unfolding watt_days_in unit_watt_days watt_days_for watt_days
+  watt_days_first = sum_of_two 62 _ (λ k. rw (no_commitment_lem k))
+
+  watt_days_second : watt_days_in facts.commitment 1 ≡ 365000000
+  unfolding watt_days_in unit_watt_days watt_days_for watt_days
+  watt_days_second = sum_of_two 62 _ (λ k. rw (no_commitment_lem k))
+
   net_of_two : (p : ℕ) → p < party_count → net_in facts 0 p ≡ added p
   unfolding net_in net share_in sum_below_ℤ delivery_days leap_year
   net_of_two p h =
       sum_of_two_ℤ 30 (λ u. share_in facts 0 u p) (λ k. rw (no_unit_lem k))
       ∙ rw (
-        shares_same unit₁.rating (hours 0) _ (parts 1460000000 0) 365 (λ q b. part_first q) p h,
-        shares_same unit₂.rating (hours 1) _ (parts 0 365000000) 365 (λ q b. part_second q) p h,
+        watt_days_first,
+        watt_days_second,
+        shares_same unit₁.rating (hours 0) _ _ (parts 1460000000 0) 365 (λ q b. part_first q) p h,
+        shares_same unit₂.rating (hours 1) _ _ (parts 0 365000000) 365 (λ q b. part_second q) p h,
       )
 
   -- nets, obligations and dues that are written out
@@ -197,7 +207,7 @@ abbrev nets : List ℤ
 nets = of_three (pos 450000) (neg_ℤ (pos 100000)) (pos 0)
 
 nets_listed : (o : ℕ → ℕ → ℕ) → list_below party_count (added 9000 o none no_last) ≡ nets
-unfolding list_below sum_below unit_share watt_days_of limited_shortfall unit_limit unit_shortfall limited limit quarters available unforced committed
+unfolding list_below sum_below unit_share limited_shortfall unit_limit unit_shortfall limited limit quarters available unforced committed
     split_signed with_sign split first_shares
 nets_listed o = refl
 

@@ -3,11 +3,11 @@
 use Rattle.std.specs.Prelude.{Ok, ◌≡◌, List, [], ◌∷◌, map, ℕ, ◌+◌, ◌+ℤ◌}
 use mathlib.Core.List.{flatten}
 use Rattle.numbers.specs.Lists.{list_below}
-use Rattle.capacity.specs.Shortfall.{unit_watt_days, watt_days_of}
+use Rattle.capacity.specs.Shortfall.{watt_days_of}
 use Rattle.records.specs.declared.format.Record.TheVariants.{Post}
-use Rattle.records.specs.Format.{commitment_count, party_count}
+use Rattle.records.specs.Format.{party_count}
 use Rattle.records.specs.Kinds.{Decoded}
-use Rattle.rules.specs.Dues.{watt_days_for, part_for}
+use Rattle.rules.specs.Dues.{watt_days_in, part_for}
 use Rattle.book.specs.Books.{facts_of_book, empty_book}
 use Rattle.book.specs.Entered.{book_after}
 use Rattle.promise.specs.Reckoning.{Answered, facts_of_list, reckoned_paid, reckoned_line, answers_of, accepted_of}
@@ -30,11 +30,10 @@ SameAnswers = (ss : List (List ℕ)) → map answered (from_empty ss) ≡ answer
 abbrev pub SameFacts : Type 0
 SameFacts = (ss : List (List ℕ)) → facts_of_book (book_after empty_book ss) ≡ facts_of_list (accepted_of [] ss)
 
--- V. 01, From a set to its shortfall: the sum over the unit's commitments. After any strings it is what the sixteen parties'
--- parts add up to, from which the due is worked.
+-- 01, From a set to its shortfall: after any strings the sixteen parties' parts of V, over which S is split, add up to V
 abbrev pub PartsAddUp : Type 0
 PartsAddUp = (ss : List (List ℕ)) (u : ℕ)
-    → watt_days_of (part_for (facts_of_list (accepted_of [] ss)).commitment u) ≡ unit_watt_days commitment_count (watt_days_for (facts_of_list (accepted_of [] ss)).commitment u)
+    → watt_days_of (part_for (facts_of_list (accepted_of [] ss)).commitment u) ≡ watt_days_in (facts_of_list (accepted_of [] ss)).commitment u
 
 -- any list of strings is that of a log: of the strings end to end, with the place where each of them ends
 abbrev pub EveryLog : Type 0

@@ -3,3 +3,4 @@ pub mod AcceptedRows
 pub mod Fields
 pub mod ByKind
 pub mod HourOrder
+pub mod WattDays

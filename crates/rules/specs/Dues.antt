@@ -3,7 +3,7 @@
 use Rattle.std.specs.Prelude.{Bool, cond, List, Result, Ok, Err, ℕ, ◌+◌, ℤ, pos, eqb}
 use Rattle.numbers.specs.Lists.{list_below}
 use Rattle.calendar.specs.DeliveryYear.{delivery_days}
-use Rattle.capacity.specs.Shortfall.{watt_days, part_of}
+use Rattle.capacity.specs.Shortfall.{watt_days, unit_watt_days, part_of}
 use Rattle.capacity.specs.Shares.{unit_share, net}
 use Rattle.money.specs.declared.Cents.{Cents}
 use Rattle.money.specs.declared.area.Undistributed.{Undistributed}
@@ -19,7 +19,11 @@ module _ (commitment : ℕ → CommitmentRecord) where
   unfoldable pub watt_days_for : ℕ → ℕ → ℕ
   watt_days_for u k = cond (eqb (commitment k).unit (u + 1)) (watt_days (commitment k).watts (commitment k).first (commitment k).last) 0
 
-  -- party p's part of unit u's V
+  -- V of unit u: the sum over the unit's commitments
+  unfoldable pub watt_days_in : ℕ → ℕ
+  watt_days_in u = unit_watt_days commitment_count (watt_days_for u)
+
+  -- party p's part of it
   unfoldable pub part_for : ℕ → ℕ → ℕ
   part_for u p = part_of commitment_count (watt_days_for u) (λ k. (commitment k).party) (p + 1)
 
@@ -29,7 +33,10 @@ module _ (F : Facts) where
 
   -- unit u's share for party p, in the unit's own area; nothing in any other
   unfoldable pub share_in : ℕ → ℕ → ℕ → ℤ
-  share_in a u p = cond (eqb (F.unit u).area (a + 1)) (unit_share (F.unit u).rating (F.hours u) (part_for F.commitment u) days p) (pos 0)
+  share_in a u p =
+      cond (eqb (F.unit u).area (a + 1))
+      (unit_share (F.unit u).rating (F.hours u) (watt_days_in F.commitment u) (part_for F.commitment u) days p)
+      (pos 0)
 
   -- N: the sum of party p's shares in area a
   unfoldable pub net_in : ℕ → ℕ → ℤ
