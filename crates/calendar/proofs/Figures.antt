@@ -1,4 +1,5 @@
 -- The definitions give figures a to d.
+use Rattle.std.proofs.Common.{refl}
 use Rattle.numbers.specs.Sum.{sum_below}
 use Rattle.numbers.specs.Range.{within}
 use Rattle.numbers.specs.Rows.{EachGiven}
@@ -10,4 +11,4 @@ use Rattle.calendar.specs.Figures.{PeakGiven, peak_rows}
 pub peak_figures : EachGiven PeakGiven peak_rows
 unfolding sum_below within leap_year month_days is_date multiples_below days_before_year day_of_year day_number
     weekday first_monday third_monday is_holiday summer_peak winter_peak peak_period peak_day peak_hour is_answered peak_answer
-peak_figures = search tt depth 40
+peak_figures = (refl, (refl, (refl, (refl, (refl, (refl, (refl, (refl, (refl, (refl, (refl, (refl, (refl, (refl, (refl, tt)))))))))))))))
