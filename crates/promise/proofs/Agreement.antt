@@ -22,7 +22,7 @@ use Rattle.rules.proofs.ByKind.{paired, as_made, fit, by_kind}
 use Rattle.book.specs.declared.UnitEntry.{UnitEntry}
 use Rattle.book.specs.Books.{Book, no_entry, no_obligations, no_sums, obligation_in, facts_of_book, posted_in, empty_book, Sound}
 use Rattle.book.specs.Entered.{new_unit, with_hour, posted_after, obligations_after, units_after, after}
-use Rattle.promise.specs.Reckoning.{year_of, latest_area, unit_of, latest_commitment, latest_obligation, accepted_hours, sum_over, last_index, facts_of_list}
+use Rattle.promise.specs.Reckoning.{year_of, latest_area, unit_of, latest_commitment, latest_load, latest_obligation, accepted_hours, sum_over, last_index, facts_of_list}
 use Rattle.promise.specs.Reckoning.{counts_of, reckoned_due, reckoned_paid}
 use Rattle.promise.proofs.AcceptedLists.{Kept, before_year}
 
@@ -59,7 +59,7 @@ all_one : {A : Type 0} (n : ℕ) (x : A) (k : ℕ) → get_or (list_below n (λ 
 all_one n x k = each_made (λ c. c ≡ x) x n (λ j. x) refl (λ j h. refl) k
 
 pub agrees_none : Agrees empty_book []
-unfolding year_of latest_area unit_of latest_commitment latest_obligation accepted_hours sum_over last_index reckoned_paid
+unfolding year_of latest_area unit_of latest_commitment latest_load accepted_hours sum_over last_index reckoned_paid
 agrees_none =
     record {
       year = refl;
@@ -110,7 +110,7 @@ module _ (b : Book) (acc : List Decoded) (s : Sound b) (k : Kept acc) (g : Agree
 
   load_stored : (l : LoadRecord) (a p : ℕ) → within 1 area_count l.area ≡ true → within 1 party_count l.party ≡ true
       → obligation_in (obligations_after b l) a p
-      ≡ cond (eqb l.area (a + 1) && eqb l.party (p + 1)) l.obligation (latest_obligation acc a p)
+      ≡ (cond (eqb l.area (a + 1) && eqb l.party (p + 1)) l (latest_load acc a p)).obligation
   load_stored l a p area party =
       ap (λ (row : List ℕ). element row p) (keyed area_count l.area b.obligations _ no_obligations a area s.obligations.long refl) ∙ go (eqb l.area (a + 1)) refl
     where
@@ -119,8 +119,11 @@ module _ (b : Book) (acc : List Decoded) (s : Sound b) (k : Kept acc) (g : Agree
 
       go : (t : Bool) → eqb l.area (a + 1) ≡ t
           → element (cond t (set (row (area_index l.area)) (party_index l.party) l.obligation) (row a)) p
-          ≡ cond (t && eqb l.party (p + 1)) l.obligation (latest_obligation acc a p)
-      go true q = rw (named_index area_count l.area a area q) (keyed party_count l.party (row a) l.obligation 0 p party (s.obligations.each a).long (g.obligations a p))
+          ≡ (cond (t && eqb l.party (p + 1)) l (latest_load acc a p)).obligation
+      go true q =
+          rw (named_index area_count l.area a area q)
+          (keyed party_count l.party (row a) l.obligation 0 p party (s.obligations.each a).long (g.obligations a p)
+          ∙ paired (λ z (x : LoadRecord). z ≡ x.obligation) (eqb l.party (p + 1)) (λ k. refl) refl)
       go false q = g.obligations a p
 
   due_posted : (n a p : ℕ) → within 1 area_count n ≡ true → a < area_count → p < party_count
@@ -144,7 +147,7 @@ module _ (b : Book) (acc : List Decoded) (s : Sound b) (k : Kept acc) (g : Agree
         (λ u. by_kind P r hour_format tt (λ q. hour_more _ j (fit ok hour_format tt q).0) (λ h. rw (y, u, h) (g.units j))))
 
     pub agrees_more : Agrees (after b r) (r ∷ acc)
-    unfolding year_of latest_area latest_commitment latest_obligation reckoned_paid
+    unfolding year_of latest_area latest_commitment latest_load reckoned_paid
     agrees_more =
         record {
           year = paired (λ x y. x ≡ y) (is_of year_format r) (λ q. refl) g.year;
@@ -154,7 +157,7 @@ module _ (b : Book) (acc : List Decoded) (s : Sound b) (k : Kept acc) (g : Agree
               keyed_more (is_of commitment_format r) commitment_count _ b.commitments _ no_commitment j (λ q. (fit ok commitment_format tt q).0) s.commitments.long
               (g.commitments j);
           obligations = λ a p.
-              paired (λ l x. obligation_in l a p ≡ x) (is_of load_format r)
+              paired (λ l (x : LoadRecord). obligation_in l a p ≡ x.obligation) (is_of load_format r)
               (λ q. load_stored _ a p (fit ok load_format tt q).0 (fit ok load_format tt q).1.0) (g.obligations a p);
           posted = λ a p ha hp.
               paired (λ l x. posted_in l a p ≡ x) (is_of post_format r) (λ q. due_posted _ a p (fit ok post_format tt q).0 ha hp) (g.posted a p ha hp);

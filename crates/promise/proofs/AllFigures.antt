@@ -21,7 +21,7 @@ use Rattle.records.specs.Decoded.{is_broken, of_length, framed, decoded}
 use Rattle.records.specs.Kinds.{Decoded}
 use Rattle.rules.specs.Refusal.{days_fit, numbers_fit, in_range, refusal_of}
 use Rattle.rules.specs.Rules.{index}
-use Rattle.promise.specs.Reckoning.{year_of, latest_area, unit_of, latest_commitment, latest_obligation, accepted_hours, sum_over, last_index, facts_of_list}
+use Rattle.promise.specs.Reckoning.{year_of, latest_area, unit_of, latest_commitment, latest_load, accepted_hours, sum_over, last_index, facts_of_list}
 use Rattle.promise.specs.Reckoning.{Answered}
 use Rattle.promise.specs.Figures.{Figure, year, area, unit, commitment, load, post, peak, capacity, split, credit, FigureGiven, before_loads}
 use Rattle.promise.specs.Figures.{before_loads_answers, reckoned_rows, figures}
@@ -39,7 +39,7 @@ after₄ = Ok (records.Unit unit₂) ∷ Ok (records.Unit unit₁) ∷ after₂
 pub before_loads_run : (ss : List (List ℕ)) {rest : List Answered} {after : List Decoded} → Fed unloaded ss rest after
     → Fed [] (before_loads ++ ss) (before_loads_answers ++ rest) after
 unfolding number_at is_broken of_length framed decoded within index leap_year delivery_days days_fit numbers_fit in_range refusal_of list_below
-    year_of latest_area unit_of latest_commitment latest_obligation accepted_hours sum_over last_index facts_of_list
+    year_of latest_area unit_of latest_commitment latest_load accepted_hours sum_over last_index facts_of_list
 before_loads_run ss more =
     accepted_next (year 2010) (Ok (Year 2010)) [] _ refl refl refl
     (accepted_next (area 1 9000) (Ok (Area (area₁ 9000))) (Ok (Year 2010) ∷ []) _ refl refl refl

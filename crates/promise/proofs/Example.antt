@@ -31,7 +31,7 @@ use Rattle.rules.specs.Facts.{Facts, no_area, no_unit, no_commitment, no_hours}
 use Rattle.rules.specs.Refusal.{numbers_fit, in_range, refusal_of}
 use Rattle.rules.specs.Rules.{index, asked}
 use Rattle.rules.specs.Dues.{watt_days_for, watt_days_in, part_for, share_in, net_in, due_in, undistributed_in}
-use Rattle.promise.specs.Reckoning.{year_of, latest_area, unit_of, latest_commitment, latest_obligation, accepted_hours, sum_over, last_index, facts_of_list}
+use Rattle.promise.specs.Reckoning.{year_of, latest_area, unit_of, latest_commitment, latest_load, latest_obligation, accepted_hours, sum_over, last_index, facts_of_list}
 use Rattle.promise.specs.Reckoning.{reckoned_due, reckoned_paid, reckoned_line}
 use Rattle.promise.specs.Figures.{no_lines, of_three, first_lines}
 use Rattle.promise.proofs.Posts.{post_keeps}
@@ -182,11 +182,11 @@ abbrev no_last : ℕ → ℕ
 no_last u = 0
 
 facts_unloaded : facts_of_list unloaded ≡ example 9000 (λ a p. 0) none no_last
-unfolding facts_of_list year_of latest_area unit_of latest_commitment latest_obligation accepted_hours sum_over last_index
+unfolding facts_of_list year_of latest_area unit_of latest_commitment latest_load accepted_hours sum_over last_index
 facts_unloaded = refl
 
 facts_loaded : facts_of_list loaded ≡ example 9000 (latest_obligation loaded) none no_last
-unfolding facts_of_list year_of latest_area unit_of latest_commitment latest_obligation accepted_hours sum_over last_index
+unfolding facts_of_list year_of latest_area unit_of latest_commitment latest_load accepted_hours sum_over last_index
 facts_loaded = refl
 
 abbrev no_obligations : List ℕ
@@ -200,7 +200,7 @@ abbrev pub obligations : List ℕ
 obligations = 0 ∷ 0 ∷ 0 ∷ 0 ∷ 500000 ∷ 0 ∷ 600000 ∷ 0 ∷ 0 ∷ 0 ∷ 0 ∷ 0 ∷ 0 ∷ 0 ∷ 0 ∷ 0 ∷ []
 
 pub obligations_listed : list_below party_count (latest_obligation loaded 0) ≡ obligations
-unfolding list_below latest_obligation
+unfolding list_below latest_load
 obligations_listed = refl
 
 abbrev nets : List ℤ

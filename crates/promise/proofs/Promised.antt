@@ -1,5 +1,5 @@
 -- Demand 3: the four parts of the promise.
-use Rattle.std.proofs.Common.{◌≡◌, refl, sym, ◌∙◌, true, cond, true≢false, ◌⊎◌, inl, inr, List, [], ◌∷◌, map, ℕ, ◌<◌, pos, ◌+ℤ◌}
+use Rattle.std.proofs.Common.{◌≡◌, refl, sym, ◌∙◌, true, cond, true≢false, ◌⊎◌, inl, inr, List, [], ◌∷◌, ◌++◌, map, ℕ, zero, suc, ◌<◌, pos, ◌+ℤ◌, take}
 use mathlib.Core.List.Memᴰ
 use mathlib.Core.List.{Memᴰ}
 use lib.IntN.{+ℤ_idl, +ℤ_idr, +ℤ_assoc}
@@ -7,15 +7,15 @@ use Rattle.numbers.specs.Signed.{sum_below_ℤ}
 use Rattle.records.specs.Format.{party_count}
 use Rattle.records.specs.Kinds.{Decoded}
 use Rattle.book.specs.Books.{Book, empty_book}
-use Rattle.book.specs.Entered.{entered}
+use Rattle.book.specs.Entered.{entered, book_after}
 use Rattle.promise.specs.Reckoning.{Answered, accepted_with, reckoned_due, reckoned_paid, answers_of, accepted_of}
-use Rattle.promise.specs.Standing.{SameStanding}
+use Rattle.promise.specs.Standing.{SameStandingWatts}
 use Rattle.promise.specs.Promise.{Entry, run, from_empty, number_of, line_of, is_post, ends_in_post, total, Promise}
-use Rattle.promise.specs.Laws.{answered, SameAnswers}
+use Rattle.promise.specs.Laws.{answered, SameAnswers, SameTotals, RunLaws}
 use Rattle.promise.proofs.AcceptedLists.{Kept}
 use Rattle.promise.proofs.Meeting.{Meets, meets_none, number_met, meets_next, all_meet}
 use Rattle.promise.proofs.Posts.{entry, posted_by, answer_met, paid_more, paid_due, lines_balance}
-use Rattle.promise.proofs.StandingFacts.{standing_dues}
+use Rattle.promise.proofs.StandingFacts.{same_watts, standing_dues}
 
 -- numbers
 same_numbers : (b : Book) (acc : List Decoded) → Meets b acc → (ss : List (List ℕ))
@@ -62,9 +62,8 @@ each_balanced b acc m (s ∷ ss) a e i q = go (Memᴰ.cases_cons i) (λ j. each_
     go (inr j) later = later j
 
 -- order
-totals_same : (ss ts : List (List ℕ)) (a p : ℕ) → p < party_count → ends_in_post a (from_empty ss) ≡ true → ends_in_post a (from_empty ts) ≡ true
-    → SameStanding (accepted_of [] ss) (accepted_of [] ts) → total a p (from_empty ss) ≡ total a p (from_empty ts)
-totals_same ss ts a p h q r same =
+pub same_totals : SameTotals
+same_totals ss ts a p h q r same =
     let kept : (us : List (List ℕ)) → Kept (accepted_of [] us) = λ us. (all_meet empty_book [] meets_none us).kept in
     totals_due ss a p h q ∙ standing_dues (accepted_of [] ss) (accepted_of [] ts) (kept ss) (kept ts) same a p ∙ sym (totals_due ts a p h r)
 
@@ -74,7 +73,7 @@ promise_kept =
       numbers = same_numbers empty_book [] meets_none;
       balanced = each_balanced empty_book [] meets_none;
       totals = totals_due;
-      order = totals_same;
+      order = λ ss ts a p h q r same. same_totals ss ts a p h q r (same_watts (accepted_of [] ss) (accepted_of [] ts) same);
     }
 
 -- the answers with their lines
@@ -86,3 +85,23 @@ answers_met b acc m (s ∷ ss) =
 
 pub same_answers : SameAnswers
 same_answers = answers_met empty_book [] meets_none
+
+-- a run, and of more strings after those
+goes_on : (b : Book) (ss ts : List (List ℕ)) → run b (ss ++ ts) ≡ run b ss ++ run (book_after b ss) ts
+unfolding run
+goes_on b [] ts = refl
+goes_on b (s ∷ ss) ts = rw (goes_on (entered b s).book ss ts)
+
+begins : (b : Book) (ss : List (List ℕ)) (n : ℕ) → take n (run b ss) ≡ run b (take n ss)
+unfolding run
+begins b ss zero = refl
+begins b [] (suc n) = refl
+begins b (s ∷ ss) (suc n) = rw (begins (entered b s).book ss n)
+
+pub run_laws : RunLaws
+run_laws =
+    record {
+      run_goes_on = goes_on;
+      run_begins = begins;
+      totals_inside = λ ss n a p h q. rw (begins empty_book ss n) (totals_due (take n ss) a p h (rw (begins empty_book ss n) at q));
+    }

@@ -29,7 +29,7 @@ use Rattle.rules.specs.Hours.{hour_index, is_peak, service_hour, outage_hour, de
 use Rattle.rules.specs.Facts.{Facts, no_area, no_unit, no_commitment}
 use Rattle.rules.specs.Rules.{index, asked}
 use Rattle.rules.specs.Dues.{due_in}
-use Rattle.promise.specs.Reckoning.{year_of, latest_area, unit_of, latest_commitment, latest_obligation, accepted_hours, sum_over, last_index, facts_of_list}
+use Rattle.promise.specs.Reckoning.{no_load, year_of, latest_area, unit_of, latest_commitment, latest_load, latest_obligation, accepted_hours, sum_over, last_index, facts_of_list}
 use Rattle.promise.specs.Reckoning.{counts_of, reckoned_due, reckoned_paid, reckoned_line}
 use Rattle.promise.specs.Standing.{SameStanding}
 use Rattle.promise.specs.Figures.{year, area, unit, commitment, load, post, answer, no_lines, of_three, before_loads_answers}
@@ -92,9 +92,9 @@ commitments_same k =
     swapped commitment₁ commitment₂ (cond (eqb 1 (k + 1)) small₁ no_commitment) (eqb 1 (k + 1)) (eqb 2 (k + 1)) (other_key (k + 1))
     ∙ ap (λ (c : CommitmentRecord). cond (eqb 2 (k + 1)) commitment₂ c) (replaced commitment₁ small₁ no_commitment (eqb 1 (k + 1)))
 
-obligations_same : (a p : ℕ) → latest_obligation early a p ≡ latest_obligation loaded a p
-unfolding latest_obligation
-obligations_same a p = swapped 500000 600000 0 (eqb 1 (a + 1) && eqb 5 (p + 1)) (eqb 1 (a + 1) && eqb 7 (p + 1)) other
+loads_same : (a p : ℕ) → latest_load early a p ≡ latest_load loaded a p
+unfolding latest_load
+loads_same a p = swapped load₅ load₇ no_load (eqb 1 (a + 1) && eqb 5 (p + 1)) (eqb 1 (a + 1) && eqb 7 (p + 1)) other
   where
     other : (eqb 1 (a + 1) && eqb 5 (p + 1)) ≡ true → (eqb 1 (a + 1) && eqb 7 (p + 1)) ≡ true → ⊥
     other q r = omega (arith, eqb-true 5 (p + 1) (both_true {a = eqb 1 (a + 1)} q).1, eqb-true 7 (p + 1) (both_true {a = eqb 1 (a + 1)} r).1)
@@ -117,24 +117,24 @@ abbrev with_hour : ℕ → Facts
 with_hour price = example price (latest_obligation loaded) counts last
 
 facts_first : facts_of_list first ≡ with_hour 9000
-unfolding facts_of_list year_of latest_area unit_of latest_commitment latest_obligation accepted_hours
+unfolding facts_of_list year_of latest_area unit_of latest_commitment latest_load accepted_hours
 facts_first = refl
 
 facts_early : facts_of_list early ≡ with_hour 100
-unfolding facts_of_list year_of latest_area unit_of latest_commitment latest_obligation accepted_hours
+unfolding facts_of_list year_of latest_area unit_of latest_commitment latest_load accepted_hours
 facts_early = λ i. record {
   year = 2010;
   area = latest_area early;
   unit = λ k. units_same k i;
   commitment = λ k. commitments_same k i;
-  obligation = λ a p. obligations_same a p i;
+  obligation = λ a p. (loads_same a p i).obligation;
   hours = counts;
   last = last;
 }
 
 -- the area's record is replaced; the rest is as it was at the early Post
 facts_second : facts_of_list second ≡ with_hour 9000
-unfolding facts_of_list year_of latest_area unit_of latest_commitment latest_obligation accepted_hours
+unfolding facts_of_list year_of latest_area unit_of latest_commitment latest_load accepted_hours
 facts_second = λ i. record {
   year = 2010;
   area = λ k. areas_same k i;
@@ -223,14 +223,14 @@ another_fed =
     (accepted_next (post 1) (Ok (Post 1)) second [] refl (number_of second 9000 facts_second money.1) lines_second (none_next (Ok (Post 1) ∷ second)))))))))))))))
 
 standing : SameStanding (Ok (Post 1) ∷ first) (Ok (Post 1) ∷ second)
-unfolding year_of unit_of latest_area latest_commitment latest_obligation accepted_hours
+unfolding year_of unit_of latest_area latest_commitment latest_load accepted_hours
 standing =
     record {
       year = refl;
       units = λ k. sym (units_same k);
       areas = λ k. sym (areas_same k);
       commitments = λ k. sym (commitments_same k);
-      obligations = λ a p. sym (obligations_same a p);
+      loads = λ a p. sym (loads_same a p);
       hours = λ u h. (λ m. m, λ m. m);
     }
 

@@ -1,6 +1,6 @@
 -- What the reckoning's definitions give, for all lists, what it has in common with the book, and that any list of strings is
 -- that of a log.
-use Rattle.std.specs.Prelude.{Ok, ◌≡◌, List, [], ◌∷◌, map, ℕ, ◌+◌, ◌+ℤ◌}
+use Rattle.std.specs.Prelude.{Ok, ◌≡◌, true, List, [], ◌∷◌, ◌++◌, map, ℕ, ◌+◌, ◌<◌, ◌+ℤ◌, take}
 use mathlib.Core.List.{flatten}
 use Rattle.numbers.specs.Lists.{list_below}
 use Rattle.capacity.specs.Shortfall.{watt_days_of}
@@ -8,10 +8,11 @@ use Rattle.records.specs.declared.format.Record.TheVariants.{Post}
 use Rattle.records.specs.Format.{party_count}
 use Rattle.records.specs.Kinds.{Decoded}
 use Rattle.rules.specs.Dues.{watt_days_in, part_for}
-use Rattle.book.specs.Books.{facts_of_book, empty_book}
+use Rattle.book.specs.Books.{Book, facts_of_book, empty_book}
 use Rattle.book.specs.Entered.{book_after}
-use Rattle.promise.specs.Reckoning.{Answered, facts_of_list, reckoned_paid, reckoned_line, answers_of, accepted_of}
-use Rattle.promise.specs.Promise.{Entry, from_empty, number_of, line_of}
+use Rattle.promise.specs.Reckoning.{Answered, facts_of_list, reckoned_due, reckoned_paid, reckoned_line, answers_of, accepted_of}
+use Rattle.promise.specs.Standing.{SameStandingWatts}
+use Rattle.promise.specs.Promise.{Entry, run, from_empty, number_of, line_of, ends_in_post, total}
 use Rattle.promise.specs.Logs.{strings, ends_from}
 
 -- with each Post of an area the lines there so far grow by its lines
@@ -34,6 +35,21 @@ SameFacts = (ss : List (List ℕ)) → facts_of_book (book_after empty_book ss) 
 abbrev pub PartsAddUp : Type 0
 PartsAddUp = (ss : List (List ℕ)) (u : ℕ)
     → watt_days_of (part_for (facts_of_list (accepted_of [] ss)).commitment u) ≡ watt_days_in (facts_of_list (accepted_of [] ss)).commitment u
+
+-- the run of strings, and of more after them
+pub record RunLaws : Type 0 where
+  -- it begins with the answers of those before, and goes on from the book that they leave
+  pub run_goes_on : (b : Book) (ss ts : List (List ℕ)) → run b (ss ++ ts) ≡ run b ss ++ run (book_after b ss) ts
+  -- so that a run's first answers are those of its first strings,
+  pub run_begins : (b : Book) (ss : List (List ℕ)) (n : ℕ) → take n (run b ss) ≡ run b (take n ss)
+  -- and what `totals` of the promise says at the end of a list, it says after each accepted Post inside one
+  pub totals_inside : (ss : List (List ℕ)) (n a p : ℕ) → p < party_count → ends_in_post a (take n (from_empty ss)) ≡ true
+      → total a p (take n (from_empty ss)) ≡ reckoned_due (accepted_of [] (take n ss)) a p
+
+-- `order` of the promise from less: a Load of 0 W and none at all are the same
+abbrev pub SameTotals : Type 0
+SameTotals = (ss ts : List (List ℕ)) (a p : ℕ) → p < party_count → ends_in_post a (from_empty ss) ≡ true → ends_in_post a (from_empty ts) ≡ true
+    → SameStandingWatts (accepted_of [] ss) (accepted_of [] ts) → total a p (from_empty ss) ≡ total a p (from_empty ts)
 
 -- any list of strings is that of a log: of the strings end to end, with the place where each of them ends
 abbrev pub EveryLog : Type 0

@@ -9,6 +9,7 @@ use Rattle.records.specs.declared.format.AreaRecord.{AreaRecord}
 use Rattle.records.specs.declared.format.UnitRecord.{UnitRecord}
 use Rattle.records.specs.declared.format.CommitmentRecord.{CommitmentRecord}
 use Rattle.records.specs.declared.format.HourRecord.{HourRecord}
+use Rattle.records.specs.declared.format.LoadRecord.{LoadRecord}
 use Rattle.records.specs.Format.{party_count}
 use Rattle.records.specs.Decoded.{decoded}
 use Rattle.records.specs.Kinds.{Decoded, of_year, of_area, of_unit, of_commitment, of_hour, of_load, of_post}
@@ -16,6 +17,10 @@ use Rattle.rules.specs.Hours.{hour_index, service_hour, outage_hour, derated_wat
 use Rattle.rules.specs.Facts.{Facts, no_area, no_unit, no_commitment}
 use Rattle.rules.specs.Dues.{due_in}
 use Rattle.rules.specs.Rules.{refusal}
+
+-- no Load: all zeros, as what is not entered is in rules' Facts
+abbrev pub no_load : LoadRecord
+no_load = record { area = 0; party = 0; obligation = 0 }
 
 -- 01, Records, "Standing facts": the year; 0 before it is entered
 unfoldable pub year_of : List Decoded → ℕ
@@ -38,12 +43,14 @@ latest_commitment [] k = no_commitment
 latest_commitment (r ∷ rs) k = of_commitment (latest_commitment rs k) (λ c. cond (eqb c.number (k + 1)) c (latest_commitment rs k)) r
 
 -- 01, Records: a later Load with the same key (area and party) replaces the earlier
-unfoldable pub latest_obligation : List Decoded → ℕ → ℕ → ℕ
-latest_obligation [] a p = 0
-latest_obligation (r ∷ rs) a p =
-    of_load (latest_obligation rs a p)
-    (λ l. cond (eqb l.area (a + 1) && eqb l.party (p + 1)) l.obligation (latest_obligation rs a p))
-    r
+unfoldable pub latest_load : List Decoded → ℕ → ℕ → LoadRecord
+latest_load [] a p = no_load
+latest_load (r ∷ rs) a p =
+    of_load (latest_load rs a p) (λ l. cond (eqb l.area (a + 1) && eqb l.party (p + 1)) l (latest_load rs a p)) r
+
+-- its watts; 0 where there is none
+abbrev pub latest_obligation : List Decoded → ℕ → ℕ → ℕ
+latest_obligation rs a p = (latest_load rs a p).obligation
 
 -- 01, Records, "Standing facts": the accepted Hour records of a unit
 unfoldable pub accepted_hours : List Decoded → ℕ → List HourRecord

@@ -1,7 +1,7 @@
 // Functions with empty bodies whose contracts are theorems: the gate asks for their proofs by name.
 ghost use Rattle.numbers.specs.Rows.{EachGiven};
 ghost use Rattle.promise.specs.Promise.{Promise};
-ghost use Rattle.promise.specs.Laws.{LinesAddUp, SameAnswers, SameFacts, PartsAddUp, EveryLog};
+ghost use Rattle.promise.specs.Laws.{LinesAddUp, SameAnswers, SameFacts, PartsAddUp, EveryLog, RunLaws, SameTotals};
 ghost use Rattle.promise.specs.Figures.{FigureGiven, figures};
 ghost use Rattle.promise.specs.TwoWays.{TwoWays};
 
@@ -38,6 +38,16 @@ pub fn facts()
 // The parties' parts of a unit's V add up to V.
 pub fn parts()
     ensures { PartsAddUp }
+{}
+
+// A run begins with the answers of its first strings, so that totals are dues after each accepted Post inside a list.
+pub fn runs()
+    ensures { RunLaws }
+{}
+
+// `order` of the promise, where a Load of 0 W and none at all are the same.
+pub fn order_by_watts()
+    ensures { SameTotals }
 {}
 
 // Any list of strings of bytes, as many as slices hold, can be handed to `log::run`.
