@@ -1,2 +1,3 @@
 pub mod Unread
 pub mod Input
+pub mod Answers

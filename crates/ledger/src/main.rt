@@ -12,6 +12,7 @@ use std::io::{IsTerminal, Read, Write};
 use std::process::ExitCode;
 
 mod input;
+mod laws;
 mod standing;
 mod turns;
 mod unread;
