@@ -1,3 +1,4 @@
 pub mod Texts
 pub mod Passing
 pub mod Joined
+pub mod Through
