@@ -44,21 +44,23 @@ available_at_most t i g sh foh d = go (eqb (sh + foh) 0) (ltb sh 50) (unforced_a
     go false true year peak = omega arith
     go false false year peak = peak
 
-pub under_limit : (l : ℕ) (s : ℤ) → above s ≤ l → limited l s ≡ s
-unfolding above limited
-under_limit l (pos s) h = simp (le-ltb l s h)
-under_limit l (negsuc x) h = refl
-
 above_le : (s : ℤ) (l : ℕ) → s ≤ℤ pos l → above s ≤ l
 unfolding above
 above_le (pos s) l h = leb→le s l h.le
 above_le (negsuc x) l h = zero-le
 
+pub excess_untouched : (l : ℕ) (s : ℤ) → s ≤ℤ pos 0 → limited l s ≡ s
+unfolding above limited
+excess_untouched l (pos s) h = simp (le-ltb l s (omega (arith, above_le (pos s) 0 h)))
+excess_untouched l (negsuc x) h = refl
+
+pub under_limit : (l : ℕ) (s : ℤ) → above s ≤ l → limited l s ≡ s
+unfolding above limited
+under_limit l (pos s) h = simp (le-ltb l s h)
+under_limit l (negsuc x) h = refl
+
 pub not_above_untouched : (l : ℕ) (s : ℤ) → s ≤ℤ pos l → limited l s ≡ s
 not_above_untouched l s h = under_limit l s (above_le s l h)
-
-pub excess_untouched : (l : ℕ) (s : ℤ) → s ≤ℤ pos 0 → limited l s ≡ s
-excess_untouched l s h = under_limit l s (omega (arith, above_le s 0 h))
 
 pub limited_at_most : (l : ℕ) (s : ℤ) → limited l s ≤ℤ pos l
 unfolding limited

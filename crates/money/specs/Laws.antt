@@ -10,7 +10,10 @@ pub record MoneyLaws : Type 0 where
   -- a credit is never above M, and the credits add up to the lower of R and the sum of M
   pub credit_at_most : (N : ℕ → ℤ) (price days p : ℕ) → credit N price days p ≤ ceiling N price days p
   pub credits_add_up : (N : ℕ → ℤ) (price days : ℕ) → sum_below 16 (credit N price days) ≡ min (charges N price days) (ceilings N price days)
-  -- where refusal 11 does not fit, credits and load shares add up to R, so that the dues add up to 0
+  -- where refusal 11 does not fit, the load shares add up to what is left, so that with the credits they add up to R, and the
+  -- dues to 0
+  pub load_shares_add_up : (N : ℕ → ℤ) (price days : ℕ) (o : ℕ → ℕ) → is_undistributed N price days o ≡ false
+      → sum_below 16 (load_share N price days o) ≡ left N price days
   pub paid_out : (N : ℕ → ℤ) (price days : ℕ) (o : ℕ → ℕ) → is_undistributed N price days o ≡ false
       → sum_below 16 (credit N price days) + sum_below 16 (load_share N price days o) ≡ charges N price days
   pub dues_balance : (N : ℕ → ℤ) (price days : ℕ) (o : ℕ → ℕ) → is_undistributed N price days o ≡ false → sum_below_ℤ 16 (due N price days o) ≡ pos 0

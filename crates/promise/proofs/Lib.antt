@@ -1,3 +1,4 @@
+pub mod OneMore
 pub mod Runs
 pub mod LineSums
 pub mod Falling

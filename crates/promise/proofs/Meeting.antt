@@ -12,7 +12,8 @@ use Rattle.book.proofs.AreaMoney.{due_most_lem}
 use Rattle.book.proofs.Soundness.{empty_sound, after_sound}
 use Rattle.promise.specs.Reckoning.{facts_of_list, number_for, accepted_with, accepted_of}
 use Rattle.promise.specs.Laws.{SameFacts}
-use Rattle.promise.proofs.Runs.{list_after, list_kept}
+use Rattle.promise.proofs.OneMore.{list_kept}
+use Rattle.promise.proofs.Runs.{list_after}
 use Rattle.promise.proofs.AcceptedLists.{Kept, kept_none, kept_more}
 use Rattle.promise.proofs.Agreement.{Agrees, agreed_facts, agrees_none, agrees_more}
 

@@ -25,7 +25,8 @@ use Rattle.promise.specs.Promise.{Entry, number_of, line_of, is_post}
 use Rattle.promise.specs.Laws.{answered}
 use Rattle.promise.proofs.Agreement.{agreed_facts}
 use Rattle.promise.proofs.LineSums.{lines_add_up}
-use Rattle.promise.proofs.Runs.{list_after, list_kept}
+use Rattle.promise.proofs.OneMore.{list_kept, post_accepted}
+use Rattle.promise.proofs.Runs.{list_after}
 use Rattle.promise.proofs.Meeting.{Meets, number_met, accepted_by, book_after_lem, book_kept, meets_next}
 
 -- the test of a Post of area a
@@ -58,7 +59,7 @@ module _ (b : Book) (acc : List Decoded) (m : Meets b acc) (s : List ℕ) where
   pub posted_by : (a : ℕ) → is_post a entry ≡ true → Posted a
   posted_by a q =
       let both = both_true {a = eqb (number_of entry) 0} q in
-      record { number = sym (number_met b acc m s) ∙ eqb-true (number_of entry) 0 both.0; is_a_post = is_post_lem a (decoded s) both.1 }
+      record { number = sym (number_met b acc m s) ∙ post_accepted a entry q; is_a_post = is_post_lem a (decoded s) both.1 }
 
   -- a Post's lines are the reckoning's
   line_met : (n p : ℕ) → p < party_count → within 1 area_count n ≡ true → cents_of (post_lines b (area_index n)) p ≡ reckoned_line acc (n - 1) p

@@ -8,6 +8,7 @@ use Rattle.rules.specs.Refusal.{refusal_of}
 use Rattle.rules.specs.Facts.{Facts}
 use Rattle.rules.specs.Rules.{asked, refusal}
 use Rattle.promise.specs.Reckoning.{facts_of_list, Answered, number_for, accepted_with, reckoned_line, line_for, answers_of, accepted_of}
+use Rattle.promise.proofs.OneMore.{list_kept}
 use Rattle.promise.specs.Figures.{answer, no_lines}
 
 number_of : (F : Facts) (s : List ℕ) (r : Decoded) (n : ℕ) → decoded s ≡ r → refusal_of (asked F r) r ≡ n → refusal F s ≡ n
@@ -19,10 +20,6 @@ module _ (acc : List Decoded) (s : List ℕ) where
   pub list_after : number_for acc s ≡ 0 → accepted_with acc s ≡ decoded s ∷ acc
   unfolding accepted_with
   list_after e = rw e
-
-  pub list_kept : eqb (number_for acc s) 0 ≡ false → accepted_with acc s ≡ acc
-  unfolding accepted_with
-  list_kept q = rw q
 
 -- what strings are answered with, from a list on, and the list after them
 pub record Fed (acc : List Decoded) (ss : List (List ℕ)) (answers : List Answered) (after : List Decoded) : Type 0 where

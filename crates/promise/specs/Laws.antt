@@ -1,19 +1,40 @@
 -- What the reckoning's definitions give, for all lists, what it has in common with the book, and that any list of strings is
 -- that of a log.
-use Rattle.std.specs.Prelude.{Ok, ◌≡◌, true, List, [], ◌∷◌, ◌++◌, map, ℕ, ◌+◌, ◌<◌, ◌+ℤ◌, take}
+use Rattle.std.specs.Prelude.{Ok, ◌≡◌, true, false, List, [], ◌∷◌, ◌++◌, map, ℕ, ◌+◌, ◌<◌, pos, ◌+ℤ◌, eqb, take}
 use mathlib.Core.List.{flatten}
 use Rattle.numbers.specs.Lists.{list_below}
 use Rattle.capacity.specs.Shortfall.{watt_days_of}
-use Rattle.records.specs.declared.format.Record.TheVariants.{Post}
+use Rattle.records.specs.declared.format.Record.TheVariants.{Commitment, Load, Post}
+use Rattle.records.specs.declared.format.CommitmentRecord.{CommitmentRecord}
+use Rattle.records.specs.declared.format.HourRecord.{HourRecord}
+use Rattle.records.specs.declared.format.LoadRecord.{LoadRecord}
 use Rattle.records.specs.Format.{party_count}
 use Rattle.records.specs.Kinds.{Decoded}
+use Rattle.rules.specs.Hours.{counted}
 use Rattle.rules.specs.Dues.{watt_days_in, part_for}
 use Rattle.book.specs.Books.{Book, facts_of_book, empty_book}
 use Rattle.book.specs.Entered.{book_after}
-use Rattle.promise.specs.Reckoning.{Answered, facts_of_list, reckoned_due, reckoned_paid, reckoned_line, answers_of, accepted_of}
+use Rattle.promise.specs.Reckoning.{Answered, latest_commitment, latest_load, counts_of, facts_of_list, number_for, accepted_with, reckoned_due, reckoned_paid}
+use Rattle.promise.specs.Reckoning.{reckoned_line, line_for, answers_of, accepted_of}
 use Rattle.promise.specs.Standing.{SameStandingWatts}
-use Rattle.promise.specs.Promise.{Entry, run, from_empty, number_of, line_of, ends_in_post, total}
+use Rattle.promise.specs.Promise.{Entry, run, from_empty, number_of, line_of, is_post, ends_in_post, total}
 use Rattle.promise.specs.Logs.{strings, ends_from}
+
+-- one record, hour, string or entry more
+pub record ReckoningLaws : Type 0 where
+  -- 01, Fresh reckoning: an Hour record counts once, as in the book
+  pub hour_counts_once : (y : ℕ) (h : HourRecord) (hs : List HourRecord) → counts_of y (h ∷ hs) ≡ counted y (counts_of y hs) h
+  -- 01, Records: a later Commitment, and a later Load, replaces the earlier one with its key
+  pub commitment_replaces : (acc : List Decoded) (c : CommitmentRecord) (k : ℕ) → c.number ≡ k + 1 → latest_commitment (Ok (Commitment c) ∷ acc) k ≡ c
+  pub load_replaces : (acc : List Decoded) (l : LoadRecord) (a p : ℕ) → l.area ≡ a + 1 → l.party ≡ p + 1
+      → latest_load (Ok (Load l) ∷ acc) a p ≡ l
+  -- 01, Fresh reckoning: where a row fits, the list stays as it is
+  pub list_kept : (acc : List Decoded) (s : List ℕ) → eqb (number_for acc s) 0 ≡ false → accepted_with acc s ≡ acc
+  -- 01, Places of refusal: a refused string has no line other than zero
+  pub refused_lines : (acc : List Decoded) (s : List ℕ) (p : ℕ) → eqb (number_for acc s) 0 ≡ false → line_for acc s p ≡ pos 0
+  -- 01, Area money: a total is the sum of the lines at the accepted posts
+  pub post_accepted : (a : ℕ) (e : Entry) → is_post a e ≡ true → number_of e ≡ 0
+  pub post_adds : (a p : ℕ) (e : Entry) (es : List Entry) → is_post a e ≡ true → total a p (e ∷ es) ≡ line_of e p +ℤ total a p es
 
 -- with each Post of an area the lines there so far grow by its lines
 abbrev pub LinesAddUp : Type 0

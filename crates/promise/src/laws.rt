@@ -1,7 +1,7 @@
 // Functions with empty bodies whose contracts are theorems: the gate asks for their proofs by name.
 ghost use Rattle.numbers.specs.Rows.{EachGiven};
 ghost use Rattle.promise.specs.Promise.{Promise};
-ghost use Rattle.promise.specs.Laws.{LinesAddUp, SameAnswers, SameFacts, PartsAddUp, EveryLog, RunLaws, SameTotals};
+ghost use Rattle.promise.specs.Laws.{ReckoningLaws, LinesAddUp, SameAnswers, SameFacts, PartsAddUp, EveryLog, RunLaws, SameTotals};
 ghost use Rattle.promise.specs.Figures.{FigureGiven, figures};
 ghost use Rattle.promise.specs.TwoWays.{TwoWays};
 
@@ -13,6 +13,11 @@ pub fn figures()
 // Demand 3.
 pub fn promised()
     ensures { Promise }
+{}
+
+// One record, hour, string or entry more.
+pub fn reckoning()
+    ensures { ReckoningLaws }
 {}
 
 // What `order` of the promise speaks of occurs, with an Hour, replaced records and an early Post.
