@@ -7,7 +7,7 @@ use Rattle.records.specs.Kinds.{Decoded}
 use Rattle.rules.specs.Facts.{Facts}
 use Rattle.rules.specs.Dues.{due_in}
 use Rattle.promise.specs.Reckoning.{year_of, latest_area, unit_of, latest_commitment, latest_obligation, accepted_hours, counts_of, last_index, facts_of_list, reckoned_due}
-use Rattle.promise.specs.Standing.{SameBut, SameStanding, SameStandingWatts}
+use Rattle.promise.specs.Standing.{SameStanding, SameStandingWatts}
 use Rattle.promise.proofs.Falling.{same_hours}
 use Rattle.promise.proofs.AcceptedLists.{Kept}
 
