@@ -4,3 +4,4 @@ pub mod AreaMoney
 pub mod Soundness
 pub mod Answers
 pub mod HourRuns
+pub mod HoursEntered

@@ -1,10 +1,11 @@
 -- A run of accepted Hour records in a row, with nothing between them.
-use Rattle.std.specs.Prelude.{Bool, true, false, cond, ◌&&◌, List, ℕ, zero, suc, ◌+◌, ◌-◌, ◌/◌, min, eqb, length, take, drop}
+use Rattle.std.specs.Prelude.{◌≡◌, Bool, true, false, cond, ◌&&◌, List, [], ◌∷◌, ℕ, zero, suc, ◌+◌, ◌-◌, ◌/◌, min, eqb, length, take, drop}
+use mathlib.Core.List.{flatten}
 use Rattle.records.specs.Format.{bytes_of, hour_format}
 use Rattle.records.specs.Decoded.{decoded}
 use Rattle.records.specs.Kinds.{of_hour}
 use Rattle.book.specs.Books.{Book}
-use Rattle.book.specs.Entered.{entered}
+use Rattle.book.specs.Entered.{entered, book_after}
 
 -- so many bytes has an Hour record
 abbrev pub hour_length : ℕ
@@ -35,3 +36,19 @@ hours_of (suc n) b s from =
 -- those of s between two places; nothing is beyond the end of s
 abbrev pub hours_between : Book → List ℕ → ℕ → ℕ → Run
 hours_between b s from to = hours_of ((min to (length s) - from) / hour_length) b s from
+
+-- so many strings of an Hour record's length, one after another from a place on
+unfoldable pub hour_strings : ℕ → List ℕ → ℕ → List (List ℕ)
+hour_strings zero s from = []
+hour_strings (suc n) s from = hour_bytes s from ∷ hour_strings n s (from + hour_length)
+
+-- those that a run over s took
+abbrev pub strings_taken : Run → List ℕ → List (List ℕ)
+strings_taken r s = hour_strings (r.next / hour_length) s 0
+
+-- what a run over s does is what is done with the strings that it took
+pub record RunLaws : Type 0 where
+  -- each is entered in turn, as any other string is
+  pub hours_entered : (b : Book) (s : List ℕ) → (hours_between b s 0 (length s)).book ≡ book_after b (strings_taken (hours_between b s 0 (length s)) s)
+  -- end to end they are the bytes that it took
+  pub hours_joined : (b : Book) (s : List ℕ) → flatten (strings_taken (hours_between b s 0 (length s)) s) ≡ take (hours_between b s 0 (length s)).next s

@@ -1,7 +1,13 @@
-// A function with an empty body whose contract is a theorem: the gate asks for its proof by name.
+// Functions with empty bodies whose contracts are theorems: the gate asks for their proofs by name.
 ghost use Rattle.book.specs.Entered.{EveryBook};
+ghost use Rattle.book.specs.Runs.{RunLaws};
 
 // Every book that strings lead to from the empty one is sound.
 pub fn every_book()
     ensures { EveryBook }
+{}
+
+// What `Book::hours` does is what `Book::enter` does with the strings that it took.
+pub fn hour_runs()
+    ensures { RunLaws }
 {}

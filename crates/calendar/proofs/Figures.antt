@@ -6,9 +6,9 @@ use Rattle.numbers.specs.Rows.{EachGiven}
 use Rattle.calendar.specs.Gregorian.{leap_year, month_days, is_date, multiples_below, days_before_year, day_of_year, day_number}
 use Rattle.calendar.specs.Week.{weekday, first_monday, third_monday, is_holiday}
 use Rattle.calendar.specs.Peak.{summer_peak, winter_peak, peak_period, peak_day, peak_hour, is_answered, peak_answer}
-use Rattle.calendar.specs.Figures.{PeakGiven, peak_rows}
+use Rattle.calendar.specs.Figures.{CalendarGiven, calendar_rows}
 
-pub peak_figures : EachGiven PeakGiven peak_rows
+pub calendar_figures : EachGiven CalendarGiven calendar_rows
 unfolding sum_below within leap_year month_days is_date multiples_below days_before_year day_of_year day_number
     weekday first_monday third_monday is_holiday summer_peak winter_peak peak_period peak_day peak_hour is_answered peak_answer
-peak_figures = (refl, (refl, (refl, (refl, (refl, (refl, (refl, (refl, (refl, (refl, (refl, (refl, (refl, (refl, (refl, tt)))))))))))))))
+calendar_figures = (refl, (refl, (refl, (refl, (refl, (refl, (refl, (refl, (refl, (refl, (refl, (refl, (refl, (refl, (refl, (refl, (refl, tt)))))))))))))))))

@@ -3,7 +3,8 @@ use Rattle.std.specs.Prelude.{◌≡◌, List, [], ◌∷◌, ℕ, ℤ, pos, neg
 use Rattle.numbers.specs.Lists.{list_below}
 use Rattle.money.specs.AreaMoney.{ceiling, charges, credit}
 
--- nets at a price and a number of days: R, the first ceilings and the first credits
+-- Nets at a price and a number of days: R, the first ceilings and the first credits. The paper states cents; those of the row come
+-- from watts at 1 cent per MW-day and 365 days.
 pub record CreditRow : Type 0 where
   pub nets : List ℤ
   pub price : ℕ
@@ -25,7 +26,7 @@ CreditGiven r =
 
 abbrev pub credit_rows : List CreditRow
 credit_rows =
-    -- i. R 100 over M 90 and 60: 60 and 40; at 1 cent per MW-day and 365 days these nets come to that
+    -- i. R 100 over M 90 and 60: 60 and 40.
     record {
       nets = pos 273973 ∷ neg_ℤ (pos 246576) ∷ neg_ℤ (pos 164384) ∷ [];
       price = 1;

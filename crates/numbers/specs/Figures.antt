@@ -18,7 +18,7 @@ SplitGiven r = list_below (length r.weights) (split_signed r.amount (length r.we
 
 abbrev pub split_rows : List SplitRow
 split_rows =
-    -- h. 10 over 1, 1, 1: 3, 3, 4; −10: −3, −3, −4
+    -- h. 10 over 1, 1, 1: 3, 3, 4; −10: −3, −3, −4.
     split_row (pos 10) (1 ∷ 1 ∷ 1 ∷ []) (pos 3 ∷ pos 3 ∷ pos 4 ∷ [])
     ∷ split_row (neg_ℤ (pos 10)) (1 ∷ 1 ∷ 1 ∷ []) (neg_ℤ (pos 3) ∷ neg_ℤ (pos 3) ∷ neg_ℤ (pos 4) ∷ [])
     ∷ []

@@ -8,8 +8,8 @@ use Rattle.numbers.proofs.Rows.{each_renamed}
 use Rattle.numbers.proofs.AllFigures.{split_figures}
 use Rattle.calendar.specs.Gregorian.{leap_year}
 use Rattle.calendar.specs.DeliveryYear.{delivery_days}
-use Rattle.calendar.specs.Figures.{peak_rows}
-use Rattle.calendar.proofs.Figures.{peak_figures}
+use Rattle.calendar.specs.Figures.{calendar_rows}
+use Rattle.calendar.proofs.Figures.{calendar_figures}
 use Rattle.capacity.specs.Figures.{capacity_rows}
 use Rattle.capacity.proofs.AllFigures.{capacity_figures}
 use Rattle.money.specs.Figures.{credit_rows}
@@ -23,7 +23,7 @@ use Rattle.rules.specs.Refusal.{days_fit, numbers_fit, in_range, refusal_of}
 use Rattle.rules.specs.Rules.{index}
 use Rattle.promise.specs.Reckoning.{year_of, latest_area, unit_of, latest_commitment, latest_load, accepted_hours, sum_over, last_index, facts_of_list}
 use Rattle.promise.specs.Reckoning.{Answered}
-use Rattle.promise.specs.Figures.{Figure, year, area, unit, commitment, load, post, peak, capacity, split, credit, FigureGiven, before_loads}
+use Rattle.promise.specs.Figures.{Figure, year, area, unit, commitment, load, post, calendar, capacity, split, credit, FigureGiven, before_loads}
 use Rattle.promise.specs.Figures.{before_loads_answers, reckoned_rows, figures}
 use Rattle.promise.proofs.Runs.{Fed, none_next, accepted_next, refused_next}
 use Rattle.promise.proofs.Example.{area₁, unit₁, unit₂, commitment₁, commitment₂, load₅, load₇, unloaded, loaded, first_number, second_number}
@@ -75,12 +75,12 @@ after_split = map credit credit_rows ++ reckoned_rows
 abbrev after_capacity : List Figure
 after_capacity = map split split_rows ++ after_split
 
-abbrev after_peak : List Figure
-after_peak = map capacity capacity_rows ++ after_capacity
+abbrev after_calendar : List Figure
+after_calendar = map capacity capacity_rows ++ after_capacity
 
 pub figures_given : EachGiven FigureGiven figures
 figures_given =
-    each_renamed FigureGiven peak peak_rows after_peak peak_figures
+    each_renamed FigureGiven calendar calendar_rows after_calendar calendar_figures
     (each_renamed FigureGiven capacity capacity_rows after_capacity capacity_figures
     (each_renamed FigureGiven split split_rows after_split split_figures
     (each_renamed FigureGiven credit credit_rows reckoned_rows credit_figures reckoned_figures)))

@@ -1,7 +1,7 @@
 -- Figures a to j of document 01 ("Figures to be proved in a table"): those of the crates below, and j.
 use Rattle.std.specs.Prelude.{◌≡◌, List, [], ◌∷◌, ◌++◌, map, ℕ, zero, suc, ◌/◌, ◌%◌, ℤ, pos, neg_ℤ, length}
 use Rattle.numbers.specs.Figures.{SplitRow, SplitGiven, split_rows}
-use Rattle.calendar.specs.Figures.{PeakRow, PeakGiven, peak_rows}
+use Rattle.calendar.specs.Figures.{CalendarRow, CalendarGiven, calendar_rows}
 use Rattle.capacity.specs.Figures.{CapacityRow, CapacityGiven, capacity_rows}
 use Rattle.money.specs.Figures.{CreditRow, CreditGiven, credit_rows}
 use Rattle.promise.specs.Reckoning.{Answered, answers_of}
@@ -39,8 +39,8 @@ post a = tagged 7 (a ∷ [])
 
 -- one figure as the paper states it
 pub data Figure : Type 0 where
-  -- a to d, an answer to the peak question
-  peak : PeakRow → Figure
+  -- a to d, a weekday or an answer to the peak question
+  calendar : CalendarRow → Figure
   -- e to g, from a set to its shortfall
   capacity : CapacityRow → Figure
   -- h, a split
@@ -52,7 +52,7 @@ pub data Figure : Type 0 where
 
 -- the definitions give the figure
 abbrev pub FigureGiven : Figure → Type 0
-FigureGiven (peak r) = PeakGiven r
+FigureGiven (calendar r) = CalendarGiven r
 FigureGiven (capacity r) = CapacityGiven r
 FigureGiven (split r) = SplitGiven r
 FigureGiven (credit r) = CreditGiven r
@@ -93,13 +93,12 @@ before_loads_answers = answer 0 no_lines ∷ answer 0 no_lines ∷ answer 0 no_l
 
 abbrev pub reckoned_rows : List Figure
 reckoned_rows =
-    -- j. The lines above;
+    -- j. The lines above; the same without Loads: post refused with 11.
     reckoned
     (before_loads ++ (load 1 5 500000 ∷ load 1 7 600000 ∷ post 1 ∷ post 1 ∷ post 2 ∷ []))
     (before_loads_answers ++ (answer 0 no_lines ∷ answer 0 no_lines ∷ answer 0 first_lines ∷ answer 0 no_lines ∷ answer 7 no_lines ∷ []))
-    -- the same without Loads: post refused with 11
     ∷ reckoned (before_loads ++ (post 1 ∷ post 1 ∷ post 2 ∷ [])) (before_loads_answers ++ (answer 11 no_lines ∷ answer 11 no_lines ∷ answer 7 no_lines ∷ []))
     ∷ []
 
 abbrev pub figures : List Figure
-figures = map peak peak_rows ++ map capacity capacity_rows ++ map split split_rows ++ map credit credit_rows ++ reckoned_rows
+figures = map calendar calendar_rows ++ map capacity capacity_rows ++ map split split_rows ++ map credit credit_rows ++ reckoned_rows
