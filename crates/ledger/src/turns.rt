@@ -3,7 +3,7 @@ ghost use Rattle.std.specs.Prelude.{◌≡◌, [], ◌+◌, ◌-◌, ◌^◌, �
 ghost use Rattle.std.specs.Io.KnownBytes.{Keeps, Appends};
 ghost use Rattle.report.specs.Passes.{state_of, at_first, emptied, room};
 ghost use Rattle.ledger.specs.Unread.{unread};
-ghost use Rattle.ledger.specs.Input.{record_most, IsCut, outcome, outlook, Follows};
+ghost use Rattle.ledger.specs.Input.{record_most, IsCut, outcome, outlook, ReadsOn, Turns, Follows};
 
 use crate::input::Input;
 use crate::standing::Ledger;
@@ -60,7 +60,8 @@ impl<const IN: usize, const OUT: usize> Ledger<IN, OUT> {
     ) -> Result<ControlFlow<()>, Failure>
         requires { length self.old.text.items + room ≤ OUT }
         ensures { record_most ≤ IN → IsCut (unread self.old.input) → IfOk result (λ next. Follows
-            (outlook (W.contents output.old) self.old (R.remaining input.old)) (W.contents output.new) (R.remaining input.new) self.new next) }
+            (outlook (W.contents output.old) self.old (R.remaining input.old)) (W.contents output.new)
+            (ReadsOn (W.contents output.old) (W.contents output.new) (R.remaining input.old) (R.remaining input.new) self.old self.new) next) }
     {
         // `as`: no `From` between `usize` and `u64`.
         if u64::MAX - 1 - IN as u64 <= self.report.tried() {
@@ -89,7 +90,8 @@ impl<const IN: usize, const OUT: usize> Ledger<IN, OUT> {
         output: &mut W,
     ) -> Result<ControlFlow<()>, Failure>
         ensures { record_most ≤ IN → IfOk result (λ next. Follows
-            (outlook (W.contents output.old) self.old (R.remaining input.old)) (W.contents output.new) (R.remaining input.new) self.new next) }
+            (outlook (W.contents output.old) self.old (R.remaining input.old)) (W.contents output.new)
+            (Turns (W.contents output.old) (W.contents output.new) (R.remaining input.old) (R.remaining input.new) self.old self.new) next) }
     {
         let pass = self.report.take(self.input.unread(), &mut self.text);
         self.input.consume(pass.next);

@@ -4,7 +4,7 @@ use Rattle.std.proofs.lemmas.List.{nil_from_length}
 use Rattle.records.proofs.FormatLaws.{partial_most}
 use Rattle.report.specs.Passes.{state_of}
 use Rattle.ledger.specs.Unread.{unread}
-use Rattle.ledger.proofs.Outcomes.{outcome_at_end, last_lines}
+use Rattle.ledger.proofs.Outcomes.{outcome_at_end, last_lines, reads_on}
 use Rattle.ledger.proofs.standing.Ledger.read_more.Goals as goal
 
 pub returns : goal.returns
@@ -20,3 +20,10 @@ returns g c =
     (g.R.Read.remaining c.args.input.now) (g.R.Read.remaining c.read_from.new.reader)
     cut none read (end c.if-count-ne0.false (omega arith))
     (subst (λ (x : List ℕ). Appends (g.W.Write.contents c.args.output.now) (g.W.Write.contents c.print.new.output) x) last c.in_ok-print.ensures.printed)
+
+pub returns-in-Err : goal.returns-in-Err
+returns-in-Err g c =
+    λ room cut.
+    reads_on g.row.IN (state_of c.args.self.now.report c.args.self.now.text.items) (unread c.args.self.now.input) (unread c.read_from.new.self)
+    (g.W.Write.contents c.args.output.now) (g.R.Read.remaining c.args.input.now) (g.R.Read.remaining c.read_from.new.reader)
+    c.read_from.result c.read_from.ensures

@@ -2,7 +2,8 @@ use Rattle.std.proofs.Common.{arith, ◌∙◌}
 use Rattle.report.specs.Passes.{state_of}
 use Rattle.report.proofs.Passing.{passed_all, close_room}
 use Rattle.ledger.specs.Unread.{unread}
-use Rattle.ledger.proofs.Outcomes.{full_turn, broken_turn, partial_turn, partial_cut, all_follow}
+use Rattle.ledger.specs.Input.{held}
+use Rattle.ledger.proofs.Outcomes.{full_turn, broken_turn, partial_turn, partial_cut, read_turn, all_follow}
 use Rattle.ledger.proofs.standing.Ledger.take_turn.Goals as goal
 
 pub returns-in_ok-print-in-Full : goal.returns-in_ok-print-in-Full
@@ -28,11 +29,16 @@ returns-in_ok-print-in-Broken g c =
 pub returns-in-Partial : goal.returns-in-Partial
 returns-in-Partial g c =
     λ room.
-    let passed = c.take-pass.ensures.value ∙ passed_all g.row.OUT (state_of c.args.self.now.report c.args.self.now.text.items) (unread c.args.self.now.input) c.unread.ensures.value (omega arith) in
-    all_follow {i = g.row.IN} {o = g.row.OUT} c.read_more.result _ _ _ _ c.read_more.new.self
-    (partial_turn g.row.OUT (state_of c.args.self.now.report c.args.self.now.text.items) (state_of c.take-pass.new.self c.take-pass.new.out.items) (unread c.args.self.now.input) (unread c.consume.new.self)
-    c.take-pass.result.next c.take-pass.result.stop passed c.consume.ensures.value
+    let r = state_of c.args.self.now.report c.args.self.now.text.items in
+    let r' = state_of c.take-pass.new.self c.take-pass.new.out.items in
+    let s = unread c.args.self.now.input in
+    let s' = unread c.consume.new.self in
+    let passed = c.take-pass.ensures.value ∙ passed_all g.row.OUT r s c.unread.ensures.value (omega arith) in
+    all_follow c.read_more.result _ _ _
+    (partial_turn g.row.OUT r r' s s' c.take-pass.result.next c.take-pass.result.stop passed c.consume.ensures.value
     (g.W.Write.contents c.args.output.now) (g.R.Read.remaining c.args.input.now) c.in-Partial.is)
+    (read_turn g.row.OUT r r' s s' c.take-pass.result.next c.take-pass.result.stop passed c.consume.ensures.value
+    (g.W.Write.contents c.args.output.now) (g.W.Write.contents c.read_more.new.output)
+    (g.R.Read.remaining c.args.input.now) (g.R.Read.remaining c.read_more.new.input) (held c.read_more.new.self) c.in-Partial.is)
     (c.read_more.ensures room
-    (partial_cut g.row.OUT (state_of c.args.self.now.report c.args.self.now.text.items) (state_of c.take-pass.new.self c.take-pass.new.out.items) (unread c.args.self.now.input) (unread c.consume.new.self)
-    c.take-pass.result.next c.take-pass.result.stop passed c.consume.ensures.value c.in-Partial.is))
+    (partial_cut g.row.OUT r r' s s' c.take-pass.result.next c.take-pass.result.stop passed c.consume.ensures.value c.in-Partial.is))
