@@ -8,6 +8,7 @@ use Rattle.std.specs.ControlFlow.{break_value}
 use mathlib.Core.Bool.{false≢true}
 use Rattle.std.specs.Io.KnownBytes.{Keeps, Consumes, Appends, IsAtEnd}
 use Rattle.std.proofs.lemmas.List.{append-nil}
+use Rattle.std.proofs.lemmas.Option.{same_Some}
 use Rattle.report.specs.declared.pass.Stop.{Stop}
 use Rattle.report.specs.declared.pass.Stop.TheVariants as stop
 use Rattle.report.specs.Passes.{State, Stopped, stopped, passed, run_of, printed_from, ended, closed, emptied, room, finish_answer}
@@ -169,7 +170,7 @@ module _ (size : ℕ) (r r' : State) (s s' : List ℕ) (next : ℕ) (why : Stop)
 
 -- the texts of the last lines
 pub last_lines : (size : ℕ) (r : State) (s bs all text : List ℕ) → length r.text + room ≤ size → r.tried + 1 < 2 ^ 64
-    → text ≡ finish_answer size r all → all ≡ s ++ bs → bs ≡ [] → text ≡ closed (ended r s)
+    → Some text ≡ finish_answer size r all → all ≡ s ++ bs → bs ≡ [] → text ≡ closed (ended r s)
 last_lines size r s bs all text has_room few e whole none =
     let same : all ≡ s = whole ∙ ap (λ (l : List ℕ). s ++ l) none ∙ append-nil s in
-    e ∙ finish_room size r all has_room few ∙ ap (λ (l : List ℕ). closed (ended r l)) same
+    same_Some text (closed (ended r s)) (e ∙ finish_room size r all has_room few ∙ ap (λ (l : List ℕ). Some (closed (ended r l))) same)

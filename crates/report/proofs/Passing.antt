@@ -1,5 +1,5 @@
 -- A pass over a slice, record by record: hours in a row are so many records tried, counted, and nothing is printed.
-use Rattle.std.proofs.Common.{◌≡◌, refl, sym, ap, ◌∙◌, Bool, true, false, List, [], append-nil, ℕ, zero, suc, ◌+◌, ◌*◌, ◌-◌, ◌/◌, ◌≤◌, ◌<◌, min}
+use Rattle.std.proofs.Common.{◌≡◌, refl, sym, ap, ◌∙◌, Some, Bool, true, false, List, [], append-nil, ℕ, zero, suc, ◌+◌, ◌*◌, ◌-◌, ◌/◌, ◌≤◌, ◌<◌, min}
 use Rattle.std.proofs.Common.{add-zero, le_refl, add-one, arith, eqb, ltb, length, take, drop, length-drop, take_all, eqb-true, lt-ltb, le-ltb, le-leb, ◌∷◌, ◌^◌}
 use mathlib.Core.Bool.{false≢true}
 use Rattle.std.proofs.lemmas.List.{drop-drop}
@@ -275,11 +275,11 @@ module _ (size : ℕ) (s : List ℕ) where
               })
 
 -- with room, and counts that fit, the last lines are those of the definition
-pub close_room : (size : ℕ) (r : State) → length r.text + pair_most ≤ size → close_answer size r ≡ closed r
+pub close_room : (size : ℕ) (r : State) → length r.text + pair_most ≤ size → close_answer size r ≡ Some (closed r)
 unfolding close_answer
 close_room size r h = simp (le-leb _ _ h)
 
-pub finish_room : (size : ℕ) (r : State) (s : List ℕ) → length r.text + room ≤ size → r.tried + 1 < 2 ^ 64 → finish_answer size r s ≡ closed (ended r s)
+pub finish_room : (size : ℕ) (r : State) (s : List ℕ) → length r.text + room ≤ size → r.tried + 1 < 2 ^ 64 → finish_answer size r s ≡ Some (closed (ended r s))
 finish_room size r [] has_room few = close_room size r (omega arith)
 finish_room size r (b ∷ s) has_room few = simp (lt-ltb _ _ few, le-leb _ _ has_room)
 

@@ -1,5 +1,5 @@
 -- The records of a slice, one after another. 01, The ledger program.
-use Rattle.std.specs.Prelude.{◌≡◌, cond, ◌&&◌, List, [], ◌∷◌, ◌++◌, ℕ, zero, suc, ◌+◌, ◌-◌, ◌/◌, ◌^◌, ◌≤◌, eqb, ltb, leb, length, take, drop, Result, Ok, Err}
+use Rattle.std.specs.Prelude.{◌≡◌, cond, ◌&&◌, List, [], ◌∷◌, ◌++◌, ℕ, zero, suc, ◌+◌, ◌-◌, ◌/◌, ◌^◌, ◌≤◌, eqb, ltb, leb, length, take, drop, Option, Some, None, Result, Ok, Err}
 use Rattle.records.specs.Stream.{next_record, on_next, strings_of}
 use Rattle.records.specs.Decoded.{decoded}
 use Rattle.records.specs.Kinds.{of_post}
@@ -129,22 +129,22 @@ countable tried more = cond (ltb (tried + more) (2 ^ 64)) more 0
 unfoldable pub pass_answer : ℕ → State → List ℕ → Stopped
 pass_answer size r s = passed size r (take (countable r.tried (length s)) s)
 
--- what is to be printed at the end, if anything
-abbrev pub text_given : {E : Type 0} → Result (Unit {0}) E → List ℕ → List ℕ
-text_given (Ok ok) text = text
-text_given (Err e) text = []
+-- what is to be printed at the end, if the result is no failure
+abbrev pub text_given : {E : Type 0} → Result (Unit {0}) E → List ℕ → Option (List ℕ)
+text_given (Ok ok) text = Some text
+text_given (Err e) text = None
 
 -- the same, of a text that ends at a place of a slice
-abbrev pub text_before : {E : Type 0} → Result ℕ E → List ℕ → List ℕ
-text_before (Ok end) out = take end out
-text_before (Err e) out = []
+abbrev pub text_before : {E : Type 0} → Result ℕ E → List ℕ → Option (List ℕ)
+text_before (Ok end) out = Some (take end out)
+text_before (Err e) out = None
 
--- Where there is no room for the last line, nothing is printed.
-unfoldable pub close_answer : ℕ → State → List ℕ
-close_answer size r = cond (leb (length r.text + pair_most) size) (closed r) []
+-- Where there is no room for the last line, it is a failure.
+unfoldable pub close_answer : ℕ → State → Option (List ℕ)
+close_answer size r = cond (leb (length r.text + pair_most) size) (Some (closed r)) None
 
 -- What is left of the input is a cut record, and is tried first. Where there is no room for an answer and the last line, or the
--- counts do not fit, nothing is printed.
-abbrev pub finish_answer : ℕ → State → List ℕ → List ℕ
+-- counts do not fit, it is a failure.
+abbrev pub finish_answer : ℕ → State → List ℕ → Option (List ℕ)
 finish_answer size r [] = close_answer size r
-finish_answer size r (b ∷ s) = cond (ltb (r.tried + 1) (2 ^ 64) && leb (length r.text + room) size) (closed (tried r (b ∷ s))) []
+finish_answer size r (b ∷ s) = cond (ltb (r.tried + 1) (2 ^ 64) && leb (length r.text + room) size) (Some (closed (tried r (b ∷ s)))) None

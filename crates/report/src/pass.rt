@@ -1,7 +1,7 @@
 // The records of a stream: each tried, counted, and its answer printed.
 #![tactic(auto, unfolding(crate::specs::Passes::tried, crate::specs::Passes::closed, crate::specs::Passes::close_answer, crate::specs::Passes::countable, crate::specs::Passes::pass_answer, crate::specs::Printed::answer_text))]
 
-ghost use Rattle.std.specs.Prelude.{◌≡◌, cond, [], ◌++◌, ◌+◌, ◌≤◌, ◌<◌, ◌^◌, min, leb, length, take, Ok, IsOk};
+ghost use Rattle.std.specs.Prelude.{◌≡◌, cond, [], ◌++◌, ◌+◌, ◌≤◌, ◌<◌, ◌^◌, min, leb, length, take, Some, None, Ok, IsOk};
 ghost use Rattle.book.specs.Runs.{hours_between};
 ghost use Rattle.report.specs.Buffers.{Stays};
 ghost use Rattle.report.specs.Printed.{end_line, lines_most, pair_most};
@@ -54,7 +54,7 @@ fn post_area(bytes: &[u8]) -> u32
 // The last line, whatever was counted: two numbers here, and no Report, in which no more are accepted than tried.
 pub fn last_line<B: Buffer>(out: &mut B, tried: u64, accepted: u64) -> Result<(), Unfinished>
     ensures value { text_given result (B.text out.new)
-        ≡ cond (leb (length (B.text out.old) + pair_most) (B.size out.old)) (B.text out.old ++ end_line tried accepted) [] }
+        ≡ cond (leb (length (B.text out.old) + pair_most) (B.size out.old)) (Some (B.text out.old ++ end_line tried accepted)) None }
     ensures stays { Stays B.size B.place out.old out.new }
     ensures given { length (B.text out.old) + pair_most ≤ B.size out.old → IsOk result }
 {

@@ -1,4 +1,5 @@
 use Rattle.std.proofs.Common.{arith, ◌∙◌}
+use Rattle.std.proofs.lemmas.Option.{same_Some}
 use Rattle.report.specs.Passes.{state_of}
 use Rattle.report.proofs.Passing.{passed_all, close_room}
 use Rattle.ledger.specs.Unread.{unread}
@@ -23,7 +24,7 @@ returns-in_ok-print-in-Broken g c =
     c.take-pass.result.next c.take-pass.result.stop passed c.consume.ensures.value
     (g.W.Write.contents c.args.output.now) (g.W.Write.contents c.print-in-Broken.new.output) (g.R.Read.remaining c.args.input.now)
     c.close.new.out.items c.in-Broken.is
-    (c.in-Ok.ensures.value ∙ close_room g.row.OUT (state_of c.take-pass.new.self c.take-pass.new.out.items) (rw c.in-Broken.is at c.take-pass.ensures.has_room))
+    (same_Some _ _ (c.in-Ok.ensures.value ∙ close_room g.row.OUT (state_of c.take-pass.new.self c.take-pass.new.out.items) (rw c.in-Broken.is at c.take-pass.ensures.has_room)))
     c.in_ok-print-in-Broken.ensures.printed
 
 pub returns-in-Partial : goal.returns-in-Partial
