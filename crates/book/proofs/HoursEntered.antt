@@ -4,7 +4,7 @@ use mathlib.Core.List.{flatten}
 use Rattle.std.proofs.lemmas.List.{take-append-drop, drop-take, take-take, drop-drop}
 use Rattle.book.specs.Books.{Book}
 use Rattle.book.specs.Entered.{entered, book_after}
-use Rattle.book.specs.Runs.{Run, hour_length, hour_bytes, is_accepted_hour, hours_of, hours_between, hour_strings, strings_taken, RunLaws}
+use Rattle.book.specs.Runs.{Run, hour_length, hour_bytes, is_accepted_hour, hours_of, hours_between, hour_strings, strings_taken, HourRunLaws}
 
 -- how many strings a run x of at most n took
 record Taken (n : ℕ) (b : Book) (s : List ℕ) (from : ℕ) (x : Run) : Type 0 where
@@ -54,5 +54,5 @@ module _ (b : Book) (s : List ℕ) where
   hours_joined : flatten (strings_taken run s) ≡ take run.next s
   hours_joined = let whole : hour_length * (run.next / hour_length) ≡ run.next = omega (arith, of_run.next_is) in joined (run.next / hour_length) s 0 ∙ rw whole
 
-pub run_laws : RunLaws
+pub run_laws : HourRunLaws
 run_laws = record { hours_entered = hours_entered; hours_joined = hours_joined }

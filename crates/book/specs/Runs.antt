@@ -47,7 +47,7 @@ abbrev pub strings_taken : Run → List ℕ → List (List ℕ)
 strings_taken r s = hour_strings (r.next / hour_length) s 0
 
 -- what a run over s does is what is done with the strings that it took
-pub record RunLaws : Type 0 where
+pub record HourRunLaws : Type 0 where
   -- each is entered in turn, as any other string is
   pub hours_entered : (b : Book) (s : List ℕ) → (hours_between b s 0 (length s)).book ≡ book_after b (strings_taken (hours_between b s 0 (length s)) s)
   -- end to end they are the bytes that it took

@@ -1,6 +1,6 @@
 // Functions with empty bodies whose contracts are theorems: the gate asks for their proofs by name.
 ghost use Rattle.book.specs.Entered.{EveryBook};
-ghost use Rattle.book.specs.Runs.{RunLaws};
+ghost use Rattle.book.specs.Runs.{HourRunLaws};
 
 // Every book that strings lead to from the empty one is sound.
 pub fn every_book()
@@ -9,5 +9,5 @@ pub fn every_book()
 
 // What `Book::hours` does is what `Book::enter` does with the strings that it took.
 pub fn hour_runs()
-    ensures { RunLaws }
+    ensures { HourRunLaws }
 {}
