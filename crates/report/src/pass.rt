@@ -1,7 +1,7 @@
 // The records of a stream: each tried, counted, and its answer printed.
 #![tactic(auto, unfolding(crate::specs::Passes::tried, crate::specs::Passes::closed, crate::specs::Passes::close_answer, crate::specs::Passes::countable, crate::specs::Passes::pass_answer, crate::specs::Printed::answer_text))]
 
-ghost use Rattle.std.specs.Prelude.{◌≡◌, cond, [], ◌++◌, ◌+◌, ◌≤◌, ◌<◌, ◌^◌, min, leb, length, take, Some, None, Ok, IsOk};
+ghost use Rattle.std.specs.Prelude.{◌≡◌, cond, [], ◌++◌, ◌+◌, ◌≤◌, ◌<◌, ◌^◌, min, leb, length, take, Some, None, Ok, IsOk, IsErr};
 ghost use Rattle.book.specs.Runs.{hours_between};
 ghost use Rattle.report.specs.Buffers.{Stays};
 ghost use Rattle.report.specs.Printed.{end_line, lines_most, pair_most};
@@ -211,6 +211,7 @@ impl Report {
         ensures stays { Stays B.size B.place out.old out.new }
         ensures given { self.old.tried + 1 < 2 ^ 64 → length (B.text out.old) + room ≤ B.size out.old → IsOk result }
         ensures run { IsOk result → state_of self.new [] ≡ emptied (ended (state_of self.old []) rest.now) }
+        ensures kept { IsErr result → state_of self.new [] ≡ state_of self.old [] }
         ensures tried { self.new.tried ≤ self.old.tried + 1 }
     {
         if !rest.is_empty() {

@@ -1,7 +1,7 @@
 // A run whose text is in a slice of the caller's, of any length: what stands in it before a place, which the caller keeps beside it.
-ghost use Rattle.std.specs.Prelude.{◌≡◌, ◌+◌, ◌≤◌, IfOk, length, take};
+ghost use Rattle.std.specs.Prelude.{◌≡◌, [], ◌+◌, ◌≤◌, IsOk, IsErr, IfOk, length, take};
 ghost use Rattle.std.specs.Io.Cursor.{cursor_position, cursor_inner};
-ghost use Rattle.report.specs.Passes.{state_of, stopped, free, Left, pass_answer, text_before, close_answer, finish_answer};
+ghost use Rattle.report.specs.Passes.{state_of, stopped, free, Left, pass_answer, text_before, emptied, ended, close_answer, finish_answer};
 
 use crate::buffer::Buffer;
 use crate::pass::{Pass, Unfinished};
@@ -50,6 +50,8 @@ impl Report {
         used: usize,
     ) -> Result<usize, Unfinished>
         ensures value { text_before result out.new ≡ finish_answer (length out.old) (state_of self.old (take used out.old)) rest.now }
+        ensures run { IsOk result → state_of self.new [] ≡ emptied (ended (state_of self.old []) rest.now) }
+        ensures kept { IsErr result → state_of self.new [] ≡ state_of self.old [] }
         ensures inside { IfOk result (λ end. end ≤ length out.new) }
     {
         let mut text = text_in(out, used);
