@@ -1,6 +1,6 @@
 -- What makes the formulas of this folder the calendar.
-use Rattle.std.specs.Prelude.{◌≡◌, Bool, true, ℕ, ◌+◌, ◌≤◌, ◌<◌}
-use Rattle.calendar.specs.Gregorian.{Date, is_date, day_number, is_earlier, next_date}
+use Rattle.std.specs.Prelude.{◌≡◌, Bool, true, cond, ℕ, ◌+◌, ◌≤◌, ◌<◌}
+use Rattle.calendar.specs.Gregorian.{Date, leap_year, is_date, days_before_year, day_number, is_earlier, next_date}
 use Rattle.calendar.specs.Week.{monday, tuesday, weekday, third_monday}
 use Rattle.calendar.specs.DeliveryYear.{delivery_days, delivery_day}
 
@@ -11,6 +11,8 @@ abbrev pub day_number_of : Date → ℕ
 day_number_of t = day_number t.year t.month t.day
 
 pub record CalendarLaws : Type 0 where
+  -- the days before a year, a closed form, are the sum of the days of the years before it
+  pub year_step : (y : ℕ) → days_before_year (y + 1) ≡ days_before_year y + cond (leap_year y) 366 365
   -- the next date is a date, and its number is the next number: over month ends, year ends and leap days, in all years
   pub next_is_date : (y m d : ℕ) → is_date y m d ≡ true → is_date_of (next_date y m d) ≡ true
   pub day_number_steps : (y m d : ℕ) → is_date y m d ≡ true → day_number_of (next_date y m d) ≡ day_number y m d + 1
