@@ -1,15 +1,13 @@
 -- What every list of accepted records satisfies, by the rows of refusal alone.
-use Rattle.std.proofs.Common.{◌≡◌, refl, sym, Bool, true, false, cond, ◌⊎◌, inl, inr, List, [], ◌∷◌, ℕ, ◌+◌, ◌<◌, arith, ℤ, pos, eqb, ltb-true}
+use Rattle.std.proofs.Common.{◌≡◌, refl, sym, Bool, true, false, cond, inl, inr, List, [], ◌∷◌, ℕ, ◌+◌, ◌<◌, arith, ℤ, pos, eqb, ltb-true}
 use Rattle.std.proofs.Common.{leb-false, eqb-true}
 use mathlib.Core.Bool.{and-true}
 use borrow.Author.Tests.{eqb-false, not-false}
-use Rattle.numbers.specs.Range.{within}
 use Rattle.numbers.specs.Lists.{element}
 use Rattle.numbers.specs.Signed.{sum_below_ℤ}
 use Rattle.numbers.proofs.Tests.{within_from}
 use Rattle.money.proofs.Balance.{dues_balance}
 use Rattle.records.specs.declared.format.UnitRecord.{UnitRecord}
-use Rattle.records.specs.declared.format.CommitmentRecord.{CommitmentRecord}
 use Rattle.records.specs.declared.format.HourRecord.{HourRecord}
 use Rattle.records.specs.Format.{area_count, unit_count, party_count, year_format, unit_format, commitment_format, hour_format, post_format}
 use Rattle.records.specs.Kinds.{Decoded, numbers_of, is_of, unit_from, commitment_from, hour_from}

@@ -9,7 +9,6 @@ use Rattle.records.specs.Kinds.{Decoded}
 use Rattle.book.specs.Books.{Book, empty_book}
 use Rattle.book.specs.Entered.{entered, book_after}
 use Rattle.promise.specs.Reckoning.{Answered, accepted_with, reckoned_due, reckoned_paid, answers_of, accepted_of}
-use Rattle.promise.specs.Standing.{SameStandingWatts}
 use Rattle.promise.specs.Promise.{Entry, run, from_empty, number_of, line_of, is_post, ends_in_post, total, Promise}
 use Rattle.promise.specs.Laws.{answered, SameAnswers, SameTotals, RunLaws}
 use Rattle.promise.proofs.AcceptedLists.{Kept}

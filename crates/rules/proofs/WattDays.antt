@@ -3,7 +3,7 @@ use Rattle.std.proofs.Common.{◌≡◌, refl, sym, ap, ◌∙◌, Bool, true, f
 use Rattle.numbers.specs.Range.{within}
 use Rattle.numbers.proofs.Sums.{sum_same}
 use Rattle.numbers.proofs.Tests.{flipped}
-use Rattle.capacity.specs.Shortfall.{unit_watt_days, part_of, watt_days_of}
+use Rattle.capacity.specs.Shortfall.{part_of, watt_days_of}
 use Rattle.capacity.proofs.Capacities as capacity
 use Rattle.records.specs.declared.format.CommitmentRecord.{CommitmentRecord}
 use Rattle.records.specs.Format.{commitment_count, party_count}
