@@ -1,10 +1,9 @@
 -- A run of hours goes on with each accepted one and stops at the first record that is anything else or is refused.
-use Rattle.std.proofs.Common.{◌≡◌, refl, sym, ap, ◌∙◌, Bool, true, false, cond, Some, None, Ok, List, ℕ, zero, suc, ◌+◌, ◌*◌, add-zero, ◌-◌, ◌/◌, ◌<◌, min, arith, eqb, length}
-use Rattle.std.proofs.Common.{◌++◌, ◌≤◌, take, drop, length-append, length-take-le, length-drop}
-use native.Mathlib.Nat.{min-le_right}
+use Rattle.std.proofs.Common.{◌≡◌, refl, sym, ap, ◌∙◌, Bool, true, false, cond, Some, None, Ok, List, ℕ, suc, ◌+◌, ◌/◌, ◌<◌, arith, eqb, length}
+use Rattle.std.proofs.Common.{◌++◌, drop, length-append}
 use mathlib.Core.Bool.{and-false}
 use Rattle.std.proofs.Math.Seq.{take-append_seam, drop-append_seam}
-use Rattle.std.proofs.lemmas.List.{drop-drop, drop-take, take-take}
+use Rattle.std.proofs.lemmas.List.{drop-drop}
 use Rattle.numbers.specs.Range.{within}
 use Rattle.records.specs.declared.format.HourRecord.{HourRecord}
 use Rattle.records.specs.declared.format.Record.TheVariants.{Hour}
@@ -15,7 +14,7 @@ use Rattle.records.proofs.OneKind.{is_made}
 use Rattle.rules.specs.Rules.{index, area_index}
 use Rattle.book.specs.Books.{Book}
 use Rattle.book.specs.Entered.{Answer, no_lines, answer, entered}
-use Rattle.book.specs.Runs.{Run, hour_length, hour_bytes, is_accepted_hour, run, hours_of, hours_between}
+use Rattle.book.specs.Runs.{hour_length, hour_bytes, is_accepted_hour, run, hours_of, first_hours}
 
 -- an Hour names no area
 pub no_area_lem : 0 ≡ area_index 0
@@ -44,7 +43,7 @@ hour_left b s q = rw q (sym (and-false (of_hour false (λ h. true) (decoded s)))
 pub record HoursLeft (first : Book) (s : List ℕ) (b : Book) (end : ℕ) (rest : List ℕ) : Type 0 where
   pub rest_is : rest ≡ drop end s
   pub long : end + length rest ≡ length s
-  pub left : hours_of (length rest / hour_length) b s end ≡ hours_between first s 0 (length s)
+  pub left : hours_of (length rest / hour_length) b s end ≡ first_hours first s
 
 module _ {first b : Book} {s : List ℕ} {end : ℕ} {rest : List ℕ} (h : HoursLeft first s b end rest) where
   module _ (x more : List ℕ) (cut : rest ≡ x ++ more) (long : length x ≡ hour_length) where
@@ -68,64 +67,16 @@ module _ {first b : Book} {s : List ℕ} {end : ℕ} {rest : List ℕ} (h : Hour
 
     -- it stops at a record
     pub stops : {b' : Book} {taken : Bool} → taken ≡ is_accepted_hour b x → taken ≡ false → b' ≡ cond taken (entered b x).book b
-        → run end b' ≡ hours_between first s 0 (length s)
+        → run end b' ≡ first_hours first s
     unfolding hours_of
     stops {b'} {taken} is other e =
         let one : hours_of (length rest / hour_length) b s end ≡ run end b' = rw (e, count_more, read_is, sym is, other) in
         sym one ∙ h.left
 
   -- or where less than one is left
-  pub ends : length rest < hour_length → run end b ≡ hours_between first s 0 (length s)
+  pub ends : length rest < hour_length → run end b ≡ first_hours first s
   unfolding hours_of
   ends less =
       let none : length rest / hour_length ≡ 0 = omega arith in
       let one : hours_of (length rest / hour_length) b s end ≡ run end b = rw none in
       sym one ∙ h.left
-
--- The same bytes from another place on have the same run.
-module _ (s t : List ℕ) (from : ℕ) (same : (k : ℕ) → k + hour_length ≤ length t → hour_bytes s (from + k) ≡ hour_bytes t k) where
-  moved_by : (n k : ℕ) (b : Book) → k + n * hour_length ≤ length t → hours_of n b s (from + k) ≡ run (from + (hours_of n b t k).next) (hours_of n b t k).book
-  unfolding hours_of
-  moved_by zero k b h = refl
-  moved_by (suc n) k b h = rw (same k (omega arith)) (go (is_accepted_hour b (hour_bytes t k)) (moved_by n (k + hour_length) b' (omega arith)))
-    where
-      b' : Book
-      b' = (entered b (hour_bytes t k)).book
-
-      further : from + k + hour_length ≡ from + (k + hour_length)
-      further = omega arith
-
-      there : Run
-      there = hours_of n b' t (k + hour_length)
-
-      go : (taken : Bool) → hours_of n b' s (from + (k + hour_length)) ≡ run (from + there.next) there.book
-          → cond taken (hours_of n b' s (from + k + hour_length)) (run (from + k) b) ≡ run (from + (cond taken there (run k b)).next) (cond taken there (run k b)).book
-      go true e = rw further e
-      go false e = refl
-
--- so that the run between two places is that of the bytes between them
-pub run_of_part : (b : Book) (s : List ℕ) (from to : ℕ) → let t = take (min to (length s) - from) (drop from s) in
-    hours_between b s from to ≡ run (from + (hours_between b t 0 (length t)).next) (hours_between b t 0 (length t)).book
-run_of_part b s from to =
-    rw count
-    (ap (λ (at : ℕ). hours_of ((min (length t) (length t) - 0) / hour_length) b s at) (sym (add-zero from))
-    ∙ moved_by s t from bytes ((min (length t) (length t) - 0) / hour_length) 0 b (omega arith))
-  where
-    size : ℕ
-    size = min to (length s) - from
-
-    t : List ℕ
-    t = take size (drop from s)
-
-    long : length t ≡ size
-    long = length-take-le size (drop from s) (omega (arith, length-drop from s, min-le_right to (length s)))
-
-    count : size / hour_length ≡ (min (length t) (length t) - 0) / hour_length
-    count = omega (arith, long)
-
-    bytes : (k : ℕ) → k + hour_length ≤ length t → hour_bytes s (from + k) ≡ hour_bytes t k
-    bytes k inside =
-        let cut : k + (size - k) ≡ size = omega (arith, long) in
-        let room : hour_length ≤ size - k = omega (arith, long) in
-        ap (take hour_length) (sym (drop-drop k from s)) ∙ sym (take-take hour_length (size - k) (drop k (drop from s)) room)
-        ∙ ap (take hour_length) (sym (drop-take k (size - k) (drop from s)) ∙ ap (λ (n : ℕ). drop k (take n (drop from s))) cut)

@@ -1,10 +1,10 @@
 -- A run of accepted hours leaves the book that the strings it took leave.
-use Rattle.std.proofs.Common.{◌≡◌, refl, sym, ap, ◌∙◌, Bool, true, false, List, ◌++◌, ℕ, zero, suc, ◌+◌, ◌*◌, ◌-◌, ◌/◌, ◌≤◌, min, arith, length, take, drop}
+use Rattle.std.proofs.Common.{◌≡◌, refl, sym, ap, ◌∙◌, Bool, true, false, List, ◌++◌, ℕ, zero, suc, ◌+◌, ◌*◌, ◌/◌, ◌≤◌, arith, length, take, drop}
 use mathlib.Core.List.{flatten}
 use Rattle.std.proofs.lemmas.List.{take-append-drop, drop-take, take-take, drop-drop}
 use Rattle.book.specs.Books.{Book}
 use Rattle.book.specs.Entered.{entered, book_after}
-use Rattle.book.specs.Runs.{Run, hour_length, hour_bytes, is_accepted_hour, hours_of, hours_between, hour_strings, strings_taken, HourRunLaws}
+use Rattle.book.specs.Runs.{Run, hour_length, hour_bytes, is_accepted_hour, hours_of, first_hours, hour_strings, strings_taken, HourRunLaws}
 
 -- how many strings a run x of at most n took
 record Taken (n : ℕ) (b : Book) (s : List ℕ) (from : ℕ) (x : Run) : Type 0 where
@@ -40,10 +40,10 @@ joined (suc n) s from =
 
 module _ (b : Book) (s : List ℕ) where
   abbrev run : Run
-  run = hours_between b s 0 (length s)
+  run = first_hours b s
 
-  of_run : Taken ((min (length s) (length s) - 0) / hour_length) b s 0 run
-  of_run = taken ((min (length s) (length s) - 0) / hour_length) b s 0
+  of_run : Taken (length s / hour_length) b s 0 run
+  of_run = taken (length s / hour_length) b s 0
 
   counted : run.next / hour_length ≡ of_run.count
   counted = omega (arith, of_run.next_is)

@@ -1,5 +1,5 @@
 -- A run of accepted Hour records in a row, with nothing between them.
-use Rattle.std.specs.Prelude.{◌≡◌, Bool, true, false, cond, ◌&&◌, List, [], ◌∷◌, ℕ, zero, suc, ◌+◌, ◌-◌, ◌/◌, min, eqb, length, take, drop}
+use Rattle.std.specs.Prelude.{◌≡◌, Bool, true, false, cond, ◌&&◌, List, [], ◌∷◌, ℕ, zero, suc, ◌+◌, ◌/◌, eqb, length, take, drop}
 use mathlib.Core.List.{flatten}
 use Rattle.records.specs.Format.{bytes_of, hour_format}
 use Rattle.records.specs.Decoded.{decoded}
@@ -33,9 +33,9 @@ hours_of zero b s from = run from b
 hours_of (suc n) b s from =
     cond (is_accepted_hour b (hour_bytes s from)) (hours_of n (entered b (hour_bytes s from)).book s (from + hour_length)) (run from b)
 
--- those of s between two places; nothing is beyond the end of s
-abbrev pub hours_between : Book → List ℕ → ℕ → ℕ → Run
-hours_between b s from to = hours_of ((min to (length s) - from) / hour_length) b s from
+-- those at the start of s
+abbrev pub first_hours : Book → List ℕ → Run
+first_hours b s = hours_of (length s / hour_length) b s 0
 
 -- so many strings of an Hour record's length, one after another from a place on
 unfoldable pub hour_strings : ℕ → List ℕ → ℕ → List (List ℕ)
@@ -49,6 +49,6 @@ strings_taken r s = hour_strings (r.next / hour_length) s 0
 -- what a run over s does is what is done with the strings that it took
 pub record HourRunLaws : Type 0 where
   -- each is entered in turn, as any other string is
-  pub hours_entered : (b : Book) (s : List ℕ) → (hours_between b s 0 (length s)).book ≡ book_after b (strings_taken (hours_between b s 0 (length s)) s)
+  pub hours_entered : (b : Book) (s : List ℕ) → (first_hours b s).book ≡ book_after b (strings_taken (first_hours b s) s)
   -- end to end they are the bytes that it took
-  pub hours_joined : (b : Book) (s : List ℕ) → flatten (strings_taken (hours_between b s 0 (length s)) s) ≡ take (hours_between b s 0 (length s)).next s
+  pub hours_joined : (b : Book) (s : List ℕ) → flatten (strings_taken (first_hours b s) s) ≡ take (first_hours b s).next s

@@ -4,7 +4,7 @@
 ghost use Rattle.std.specs.Prelude.{◌≡◌, cond, length};
 ghost use Rattle.book.specs.Books.{empty_book};
 ghost use Rattle.book.specs.Entered.{answered, entered};
-ghost use Rattle.book.specs.Runs.{is_accepted_hour, run, hours_between};
+ghost use Rattle.book.specs.Runs.{is_accepted_hour, run, first_hours};
 
 use capacity::rating::HourCounts;
 use money::Cents;
@@ -124,7 +124,7 @@ impl Book {
     // The Hour records at the start of a slice, entered one after another: up to the first record that is anything else or
     // would be refused. Answers where that begins. By a loop: of a closure that changes the book nothing would be known.
     pub fn hours(&mut self, s: &[u8]) -> usize
-        ensures { run result self.new ≡ hours_between self.old s.now 0 (length s.now) }
+        ensures { run result self.new ≡ first_hours self.old s.now }
     {
         for (k, bytes) in s.chunks_exact(HOUR_BYTES).enumerate() {
             if !self.enter_hour(bytes) {

@@ -1,5 +1,5 @@
 -- A pass over a slice, record by record: hours in a row are so many records tried, counted, and nothing is printed.
-use Rattle.std.proofs.Common.{◌≡◌, refl, sym, ap, ◌∙◌, Some, Bool, true, false, List, [], append-nil, ℕ, zero, suc, ◌+◌, ◌*◌, ◌-◌, ◌/◌, ◌≤◌, ◌<◌, min}
+use Rattle.std.proofs.Common.{◌≡◌, refl, sym, ap, ◌∙◌, Some, Bool, true, false, List, [], append-nil, ℕ, zero, suc, ◌+◌, ◌*◌, ◌-◌, ◌/◌, ◌≤◌, ◌<◌}
 use Rattle.std.proofs.Common.{add-zero, le_refl, add-one, arith, eqb, ltb, length, take, drop, length-drop, take_all, eqb-true, lt-ltb, le-ltb, le-leb, ◌∷◌, ◌^◌}
 use mathlib.Core.Bool.{false≢true}
 use Rattle.std.proofs.lemmas.List.{drop-drop}
@@ -16,7 +16,7 @@ use Rattle.rules.proofs.ByKind.{chosen}
 use Rattle.book.specs.declared.Book.{Book}
 use Rattle.book.specs.Books.{facts_of_book}
 use Rattle.book.specs.Entered.{no_lines, lines_of, entered}
-use Rattle.book.specs.Runs.{Run, run, hour_length, hour_bytes, is_accepted_hour, hours_of, hours_between}
+use Rattle.book.specs.Runs.{Run, run, hour_length, hour_bytes, is_accepted_hour, hours_of, first_hours}
 use Rattle.report.specs.Passes.{State, standing, post_area, tried, with_hours, HoursTaken, stopped, room, pass_of, passed, Left, ended, closed, pass_answer, countable, close_answer, finish_answer}
 use Rattle.report.specs.declared.pass.Stop.TheVariants as stop
 use Rattle.report.specs.Printed.{pair_most, party_lines, answer_text}
@@ -42,18 +42,11 @@ hours_end (suc m) b s from = go (is_accepted_hour b (hour_bytes s from)) refl (h
     go true q (low, high) = rw q (omega arith, omega arith)
     go false q (low, high) = rw q (omega arith, omega arith)
 
--- all hours at the start of a slice
-all_hours : (b : Book) (s : List ℕ) → hours_between b s 0 (length s) ≡ hours_of (length s / hour_length) b s 0
-all_hours b s =
-    let whole : min (length s) (length s) - 0 ≡ length s = omega arith in
-    ap (λ (k : ℕ). hours_of (k / hour_length) b s 0) whole
+-- they end inside the slice
+pub hours_inside : (b : Book) (s : List ℕ) {taken : ℕ} {after : Book} → run taken after ≡ first_hours b s → taken ≤ length s
+hours_inside b s e = omega (arith, ap (λ (x : Run). x.next) e, (hours_end (length s / hour_length) b s 0).1)
 
-pub hours_inside : (b : Book) (s : List ℕ) {taken : ℕ} {after : Book} → run taken after ≡ hours_between b s 0 (length s) → taken ≤ length s
-hours_inside b s e =
-    let all = ap (λ (x : Run). x.next) (e ∙ all_hours b s) in
-    omega (arith, all, (hours_end (length s / hour_length) b s 0).1)
-
-pub hours_counted : (r : State) (s : List ℕ) {taken : ℕ} {after : Book} → run taken after ≡ hours_between r.book s 0 (length s)
+pub hours_counted : (r : State) (s : List ℕ) {taken : ℕ} {after : Book} → run taken after ≡ first_hours r.book s
     → HoursTaken r s taken (record { book = after; tried = r.tried + taken / hour_length; accepted = r.accepted + taken / hour_length; text = r.text })
 hours_counted r s e = (ap (λ (x : Run). x.next) e, ap (with_hours r) e, hours_inside r.book s e)
 
@@ -244,8 +237,7 @@ module _ (size : ℕ) (s : List ℕ) where
       pub counted_hours : {taken : ℕ} {x : State} → length r.text + room ≤ size → HoursTaken r (rest s at) taken x → Counted x (at + taken)
       counted_hours {taken} {x} h hours_taken =
           let (next, after, inside) = rw (rest_is s at) at hours_taken in
-          let all = all_hours r.book (drop at s) in
-          go taken x (next ∙ ap (λ (y : Run). y.next) all) (after ∙ ap (with_hours r) all) found.left found.enough found.same
+          go taken x next after found.left found.enough found.same
         where
           run : Run
           run = hours_of (length (drop at s) / hour_length) r.book (drop at s) 0

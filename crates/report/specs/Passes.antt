@@ -6,7 +6,7 @@ use Rattle.records.specs.Kinds.{of_post}
 use Rattle.book.specs.declared.Book.{Book}
 use Rattle.book.specs.Books.{empty_book}
 use Rattle.book.specs.Entered.{entered}
-use Rattle.book.specs.Runs.{Run, hours_between, hour_length}
+use Rattle.book.specs.Runs.{Run, first_hours, hour_length}
 use Rattle.report.specs.declared.standing.Report.{Report}
 use Rattle.report.specs.declared.pass.Stop.{Stop}
 use Rattle.report.specs.declared.pass.Stop.TheVariants as stop
@@ -55,7 +55,7 @@ with_hours r run = record {
 -- the accepted hours at the start of s were taken, and that many bytes
 abbrev pub HoursTaken : State → List ℕ → ℕ → State → Type 0
 HoursTaken before s taken after =
-    (taken ≡ (hours_between before.book s 0 (length s)).next) × (after ≡ with_hours before (hours_between before.book s 0 (length s))) × (taken ≤ length s)
+    (taken ≡ (first_hours before.book s).next) × (after ≡ with_hours before (first_hours before.book s)) × (taken ≤ length s)
 
 -- a pass over a slice that stopped, and where the record begins that it stopped at
 pub record Stopped : Type 0 where

@@ -2,7 +2,7 @@
 #![tactic(auto, unfolding(crate::specs::Passes::tried, crate::specs::Passes::closed, crate::specs::Passes::close_answer, crate::specs::Passes::countable, crate::specs::Passes::pass_answer, crate::specs::Printed::answer_text))]
 
 ghost use Rattle.std.specs.Prelude.{◌≡◌, cond, [], ◌++◌, ◌+◌, ◌≤◌, ◌<◌, ◌^◌, min, leb, length, take, Some, None, Ok, IsOk, IsErr};
-ghost use Rattle.book.specs.Runs.{hours_between};
+ghost use Rattle.book.specs.Runs.{first_hours};
 ghost use Rattle.report.specs.Buffers.{Stays};
 ghost use Rattle.report.specs.Printed.{end_line, lines_most, pair_most};
 ghost use Rattle.report.specs.Passes.{State, standing, state_of, at_first, post_area, tried, HoursTaken, stopped, passed, free, room, Left, emptied, countable, pass_answer, text_given, close_answer, finish_answer, ended};
