@@ -1,6 +1,6 @@
--- Figures a to d of document 01 ("Figures to be proved in a table").
+-- Figures a to d of document 01 ("Figures to be proved in a table"), and those of 02, Item 1.
 use Rattle.std.specs.Prelude.{◌≡◌, List, [], ◌∷◌, ℕ}
-use Rattle.calendar.specs.Week.{monday, tuesday, weekday}
+use Rattle.calendar.specs.Week.{monday, tuesday, friday, saturday, sunday, weekday}
 use Rattle.calendar.specs.Peak.{peak_answer}
 
 -- what the paper states of a date: its weekday, or the answer to the peak question at an hour
@@ -36,4 +36,18 @@ calendar_rows =
     ∷ peak_is 2012 2 29 19 1
     ∷ peak_is 2011 2 29 19 2
     ∷ peak_is 2100 2 29 19 2
+    -- 1. Not peak: 3 July 2009, hour 15; 5 July 2010, hour 15; 2 January 2012, hour 8; 18 June 2021, hour 15; 20 June 2022,
+    -- hour 15 (19 June 2022 is a Sunday). Peak: 18 June 2020, hour 15; 19 June 2020 (a Friday), hour 15; 3 January 2011, hour 8
+    -- (1 January 2011 is a Saturday).
+    ∷ peak_is 2009 7 3 15 0
+    ∷ peak_is 2010 7 5 15 0
+    ∷ peak_is 2012 1 2 8 0
+    ∷ peak_is 2021 6 18 15 0
+    ∷ peak_is 2022 6 20 15 0
+    ∷ weekday_is 2022 6 19 sunday
+    ∷ peak_is 2020 6 18 15 1
+    ∷ weekday_is 2020 6 19 friday
+    ∷ peak_is 2020 6 19 15 1
+    ∷ peak_is 2011 1 3 8 1
+    ∷ weekday_is 2011 1 1 saturday
     ∷ []

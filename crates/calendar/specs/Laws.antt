@@ -1,7 +1,8 @@
 -- What makes the formulas of this folder the calendar.
-use Rattle.std.specs.Prelude.{◌≡◌, Bool, true, cond, ℕ, ◌+◌, ◌≤◌, ◌<◌}
+use Rattle.std.specs.Prelude.{◌≡◌, ◌≢◌, ◌⊎◌, Bool, true, cond, ◌||◌, ℕ, ◌+◌, ◌≤◌, ◌<◌}
 use Rattle.calendar.specs.Gregorian.{Date, leap_year, is_date, days_before_year, day_number, is_earlier, next_date}
-use Rattle.calendar.specs.Week.{monday, tuesday, weekday, third_monday}
+use Rattle.calendar.specs.Week.{monday, tuesday, friday, saturday, sunday, weekday}
+use Rattle.calendar.specs.Holidays.{third_monday, falls_on, has_june_19, is_holiday}
 use Rattle.calendar.specs.DeliveryYear.{delivery_days, delivery_day}
 
 abbrev pub is_date_of : Date → Bool
@@ -21,11 +22,49 @@ pub record CalendarLaws : Type 0 where
   -- a known weekday (01, figure a): 5 July 2011 is a Tuesday
   pub known_weekday : weekday 2011 7 5 ≡ tuesday
   -- the third Monday is the only Monday from 15 to 21
-  pub third_monday_from : (y m : ℕ) → 15 ≤ third_monday y m
-  pub third_monday_to : (y m : ℕ) → third_monday y m ≤ 21
-  pub third_monday_is : (y m : ℕ) → weekday y m (third_monday y m) ≡ monday
-  pub third_monday_only : (y m d : ℕ) → 15 ≤ d → d ≤ 21 → weekday y m d ≡ monday → d ≡ third_monday y m
+  pub third_monday_from : (y m : ℕ) → 15 ≤ third_monday (weekday y) m
+  pub third_monday_to : (y m : ℕ) → third_monday (weekday y) m ≤ 21
+  pub third_monday_is : (y m : ℕ) → weekday y m (third_monday (weekday y) m) ≡ monday
+  pub third_monday_only : (y m d : ℕ) → 15 ≤ d → d ≤ 21 → weekday y m d ≡ monday → d ≡ third_monday (weekday y) m
   -- the delivery year: day 0 is 1 June, the last day is 31 May, and every date's day is one of the year's
   pub first_day : (y : ℕ) → delivery_day y 6 1 ≡ 0
   pub last_day : (y : ℕ) → delivery_day y 5 31 + 1 ≡ delivery_days y
   pub day_below : (y m d : ℕ) → delivery_day y m d < delivery_days y
+
+abbrev pub next_of : Date → Date
+next_of t = next_date t.year t.month t.day
+
+abbrev pub weekday_of : Date → ℕ
+weekday_of t = weekday t.year t.month t.day
+
+-- a holiday falls on date t
+abbrev pub holiday_falls_on : Date → Bool
+holiday_falls_on t = falls_on (weekday t.year) (has_june_19 t.year) t.month t.day
+
+abbrev pub is_holiday_of : Date → Bool
+is_holiday_of t = is_holiday t.year t.month t.day
+
+-- date s is the one before or the one after date t, a Monday to Friday, and a holiday
+pub record KeptBeside (t s : Date) : Type 0 where
+  pub is_date : is_date_of s ≡ true
+  pub beside : (next_of s ≡ t) ⊎ (next_of t ≡ s)
+  pub weekday : weekday_of s < saturday
+  pub is_holiday : is_holiday_of s ≡ true
+
+-- there is such a date beside t, and no other
+pub record KeptOnce (t : Date) : Type 0 where
+  pub kept : Date
+  pub is_kept : KeptBeside t kept
+  pub only : (s : Date) → KeptBeside t s → s ≡ kept
+
+-- 02, Item 1
+pub record HolidayLaws : Type 0 where
+  -- a Friday is a holiday if and only if a holiday falls on it or on the Saturday after it
+  pub friday_before : (t : Date) → is_date_of t ≡ true → weekday_of t ≡ friday → is_holiday_of t ≡ (holiday_falls_on t || holiday_falls_on (next_of t))
+  -- a Monday, if and only if one falls on it or on the Sunday before it
+  pub monday_after : (t : Date) → is_date_of t ≡ true → weekday_of t ≡ sunday → is_holiday_of (next_of t) ≡ (holiday_falls_on (next_of t) || holiday_falls_on t)
+  -- any other day, if and only if one falls on it: so no Saturday and no Sunday is a holiday that is only kept
+  pub other_days : (t : Date) → weekday_of t ≢ friday → weekday_of t ≢ monday → is_holiday_of t ≡ holiday_falls_on t
+  -- a holiday that falls on a Saturday or a Sunday is kept on exactly one Monday to Friday beside it. Years are counted from year
+  -- 0, whose 1 January has no date before it.
+  pub kept_once : (t : Date) → 1 ≤ t.year → is_date_of t ≡ true → saturday ≤ weekday_of t → holiday_falls_on t ≡ true → KeptOnce t

@@ -1,9 +1,10 @@
 -- Peak hours, and the peak question.
 -- 01, Hours; 002 (b), where they are called Peak-Hour Periods.
-use Rattle.std.specs.Prelude.{Bool, not, cond, ◌&&◌, ◌||◌, ℕ, ltb, Option, Some, None}
+use Rattle.std.specs.Prelude.{Bool, cond, ◌&&◌, ◌||◌, ℕ, Option, Some, None}
 use Rattle.numbers.specs.Range.{within}
 use Rattle.calendar.specs.Gregorian.{is_date}
-use Rattle.calendar.specs.Week.{saturday, weekday, is_holiday}
+use Rattle.calendar.specs.Week.{weekday}
+use Rattle.calendar.specs.Holidays.{work_day, has_june_19}
 
 -- June to August, hours ending 15 to 19
 unfoldable pub summer_peak : ℕ → ℕ → Bool
@@ -17,9 +18,9 @@ winter_peak m h = within 1 2 m && (within 8 9 h || within 19 20 h)
 unfoldable pub peak_period : ℕ → ℕ → Bool
 peak_period m h = summer_peak m h || winter_peak m h
 
--- Monday to Friday, not a holiday
-unfoldable pub peak_day : ℕ → ℕ → ℕ → Bool
-peak_day y m d = ltb (weekday y m d) saturday && not (is_holiday y m d)
+-- day d of month m of the calendar year y is Monday to Friday, not a holiday
+abbrev pub peak_day : ℕ → ℕ → ℕ → Bool
+peak_day y m d = work_day (weekday y) (has_june_19 y) m d
 
 -- the hour ending h of day d of month m of the calendar year y is peak
 unfoldable pub peak_hour : ℕ → ℕ → ℕ → ℕ → Bool

@@ -1,13 +1,18 @@
 // Functions with empty bodies whose contracts are theorems: the gate asks for their proofs by name.
 ghost use Rattle.numbers.specs.Rows.{EachGiven};
-ghost use Rattle.calendar.specs.Laws.{CalendarLaws};
+ghost use Rattle.calendar.specs.Laws.{CalendarLaws, HolidayLaws};
 ghost use Rattle.calendar.specs.Figures.{CalendarGiven, calendar_rows};
 
 pub fn calendar()
     ensures { CalendarLaws }
 {}
 
-// Figures a to d.
+// 02, Item 1.
+pub fn holidays()
+    ensures { HolidayLaws }
+{}
+
+// Figures a to d, and those of 02, Item 1.
 pub fn calendar_figures()
     ensures { EachGiven CalendarGiven calendar_rows }
 {}

@@ -1,9 +1,11 @@
 // The calendar of the peak-hour availability book: dates, delivery years, holidays and peak hours.
-// Document 01, Records and Hours; source document 002 (b). Each result is equated with its definition in specs/.
+// Document 01, Records and Hours; document 02, Item 1; source document 002 (b). Each result is equated with its definition in
+// specs/.
 #![tactic(auto)]
 
 pub mod delivery_year;
 mod gregorian;
+mod holidays;
 pub mod laws;
 mod peak;
 pub mod question;

@@ -3,6 +3,7 @@ ghost use Rattle.std.specs.Prelude.{◌≡◌};
 ghost use Rattle.calendar.specs.Peak.{peak_period, peak_day, peak_hour};
 
 use crate::gregorian::Date;
+use crate::holidays::is_kept_on;
 
 const SATURDAY: u64 = 5;
 
@@ -14,11 +15,15 @@ fn is_in_peak_period(month: u32, hour_ending: u32) -> bool
 }
 
 impl Date {
-    #[tactic(auto, unfolding(crate::specs::Peak::peak_day))]
+    // The weekday, which takes most of the time, is worked out once.
+    #[tactic(auto, unfolding(crate::specs::Holidays::work_day, crate::specs::Holidays::free_day))]
     fn is_peak_day(self) -> bool
         ensures { result ≡ peak_day self.year self.month self.day }
     {
-        self.weekday() < SATURDAY && !self.is_holiday()
+        let weekday = self.weekday();
+        weekday < SATURDAY
+            && !self.has_holiday()
+            && !is_kept_on(self.has_june_19(), self.month, self.day, weekday)
     }
 
     // The period is tested first: most hours are decided there, without a weekday.

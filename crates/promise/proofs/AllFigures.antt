@@ -1,4 +1,4 @@
--- The definitions give figures a to j.
+-- The definitions give every row of the table of figures.
 use Rattle.std.proofs.Common.{Ok, map, List, [], ◌∷◌, ◌++◌, refl, ℕ}
 use Rattle.numbers.specs.Range.{within}
 use Rattle.numbers.specs.Rows.{EachGiven}

@@ -1,4 +1,5 @@
--- Figures a to j of document 01 ("Figures to be proved in a table"): those of the crates below, and j.
+-- The table of figures, a to j of document 01 ("Figures to be proved in a table") and those of 02, Item 1: the rows of the
+-- crates below, and those of j.
 use Rattle.std.specs.Prelude.{◌≡◌, List, [], ◌∷◌, ◌++◌, map, ℕ, zero, suc, ◌/◌, ◌%◌, ℤ, pos, neg_ℤ, length}
 use Rattle.numbers.specs.Figures.{SplitRow, SplitGiven, split_rows}
 use Rattle.calendar.specs.Figures.{CalendarRow, CalendarGiven, calendar_rows}
@@ -39,7 +40,7 @@ post a = tagged 7 (a ∷ [])
 
 -- one figure as the paper states it
 pub data Figure : Type 0 where
-  -- a to d, a weekday or an answer to the peak question
+  -- a to d, and 02, Item 1: a weekday or an answer to the peak question
   calendar : CalendarRow → Figure
   -- e to g, from a set to its shortfall
   capacity : CapacityRow → Figure

@@ -5,7 +5,7 @@ ghost use Rattle.promise.specs.Laws.{ReckoningLaws, LinesAddUp, SameAnswers, Sam
 ghost use Rattle.promise.specs.Figures.{FigureGiven, figures};
 ghost use Rattle.promise.specs.TwoWays.{TwoWays};
 
-// Figures a to j.
+// Figures a to j, and those of 02, Item 1.
 pub fn figures()
     ensures { EachGiven FigureGiven figures }
 {}
