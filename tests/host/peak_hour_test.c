@@ -1,7 +1,8 @@
 /* Compares peak_hour with a calendar of this program's own, written from
-   documents 002 (b) and 01 (Hours; figures a to d). */
+   documents 002 (b), 01 (Hours; figures a to d) and 02, Item 1, whose holidays
+   replace those of 01. */
 
-#define _DEFAULT_SOURCE /* timegm, gmtime_r */
+#define _DEFAULT_SOURCE /* timegm */
 
 #include <inttypes.h>
 #include <stdbool.h>
@@ -19,6 +20,7 @@ enum {
     SWEEP_FIRST_YEAR = 2005, SWEEP_LAST_YEAR = 2102,
     SWEEP_LAST_MONTH = 13, SWEEP_LAST_DAY = 32, SWEEP_LAST_HOUR = 25,
     FIRST_YEAR = 2007, LAST_YEAR = 2100,
+    FIRST_YEAR_OF_19_JUNE = 2021,
     OTHER_QUADRUPLES = 1000000,
     MISMATCHES_SHOWN = 20
 };
@@ -31,66 +33,95 @@ typedef struct { uint32_t field[FIELDS]; } quadruple;
 
 enum weekday { SUNDAY, MONDAY, SATURDAY = 6 };
 
-enum day_kind { NO_SUCH_DATE, DAY_OFF, WORKING_DAY };
+typedef struct { int year, month, day; enum weekday weekday; } date;
 
-static enum day_kind calendar[SWEEP_LAST_YEAR - SWEEP_FIRST_YEAR + 1]
-                             [SWEEP_LAST_MONTH + 1][SWEEP_LAST_DAY + 1];
-
-/* timegm turns a date that does not exist into another one. */
-static bool find_weekday(int year, int month, int day, int *weekday)
+/* timegm counts a day past the month's end on into the next month, and day 0 back. */
+static date find_date(int year, int month, int day)
 {
-    struct tm asked = { .tm_year = year - 1900, .tm_mon = month - 1, .tm_mday = day };
-    struct tm found = asked;
-    time_t midnight = timegm(&found);
-    if (gmtime_r(&midnight, &found) == NULL)
-        return false;
-    *weekday = found.tm_wday;
-    return found.tm_year == asked.tm_year && found.tm_mon == asked.tm_mon
-        && found.tm_mday == asked.tm_mday;
+    struct tm tm = { .tm_year = year - 1900, .tm_mon = month - 1, .tm_mday = day };
+    timegm(&tm);
+    return (date){ tm.tm_year + 1900, tm.tm_mon + 1, tm.tm_mday, (enum weekday)tm.tm_wday };
 }
 
-static bool is_third_monday(int year, int month, int day)
+static date day_before(date d)
 {
-    int weekday = SUNDAY;
+    return find_date(d.year, d.month, d.day - 1);
+}
+
+static date day_after(date d)
+{
+    return find_date(d.year, d.month, d.day + 1);
+}
+
+static bool is_weekend(date d)
+{
+    return d.weekday == SATURDAY || d.weekday == SUNDAY;
+}
+
+static bool is_third_monday(date d)
+{
     int mondays = 0;
-    for (int d = 1; d <= day; d++)
-        if (find_weekday(year, month, d, &weekday) && weekday == MONDAY)
+    for (int day = 1; day <= d.day; day++)
+        if (find_date(d.year, d.month, day).weekday == MONDAY)
             mondays++;
-    return weekday == MONDAY && mondays == 3;
+    return d.weekday == MONDAY && mondays == 3;
 }
 
-/* 01, Hours: each on its date, so none is moved off a weekend. */
-static bool is_holiday(int year, int month, int day)
+/* 02, Item 1: the holidays by date, whatever day they are kept on. */
+static bool is_holiday(date d)
 {
-    switch (month) {
+    switch (d.month) {
     case 1:
-        return day == 1 || is_third_monday(year, month, day);
+        return d.day == 1 || is_third_monday(d);
     case 2:
-        return is_third_monday(year, month, day);
+        return is_third_monday(d);
+    case 6:
+        return d.day == 19 && d.year >= FIRST_YEAR_OF_19_JUNE;
     case 7:
-        return day == 4;
+        return d.day == 4;
     default:
         return false;
     }
 }
 
-static enum day_kind kind_of_day(int year, int month, int day)
+/* 02, Item 1: for a Saturday the Friday before (5 U.S.C. 6103), for a Sunday the
+   Monday after (Executive Order 11582). */
+static date day_of_observance(date holiday)
 {
-    int weekday;
-    if (!find_weekday(year, month, day, &weekday))
-        return NO_SUCH_DATE;
-    if (weekday == SATURDAY || weekday == SUNDAY || is_holiday(year, month, day))
-        return DAY_OFF;
-    return WORKING_DAY;
+    switch (holiday.weekday) {
+    case SATURDAY:
+        return day_before(holiday);
+    case SUNDAY:
+        return day_after(holiday);
+    default:
+        return holiday;
+    }
 }
 
+enum day_kind { NO_SUCH_DATE, DAY_OFF, WORKING_DAY };
+
+static enum day_kind calendar[SWEEP_LAST_YEAR - SWEEP_FIRST_YEAR + 1]
+                             [SWEEP_LAST_MONTH + 1][SWEEP_LAST_DAY + 1];
+
+static enum day_kind *entry(date d)
+{
+    return &calendar[d.year - SWEEP_FIRST_YEAR][d.month][d.day];
+}
+
+static bool in_sweep(date d)
+{
+    return d.year >= SWEEP_FIRST_YEAR && d.year <= SWEEP_LAST_YEAR;
+}
+
+/* What is not a date stays NO_SUCH_DATE. */
 static void fill_calendar(void)
 {
-    for (int year = SWEEP_FIRST_YEAR; year <= SWEEP_LAST_YEAR; year++)
-        for (int month = 0; month <= SWEEP_LAST_MONTH; month++)
-            for (int day = 0; day <= SWEEP_LAST_DAY; day++)
-                calendar[year - SWEEP_FIRST_YEAR][month][day] =
-                    kind_of_day(year, month, day);
+    const date first = find_date(SWEEP_FIRST_YEAR, 1, 1);
+    for (date d = first; in_sweep(d); d = day_after(d))
+        *entry(d) = is_weekend(d) ? DAY_OFF : WORKING_DAY;
+    for (date d = first; in_sweep(d); d = day_after(d))
+        if (is_holiday(d) && in_sweep(day_of_observance(d)))
+            *entry(day_of_observance(d)) = DAY_OFF;
 }
 
 /* 002 (b) */
@@ -191,6 +222,68 @@ static void compare_figures(struct group *group)
     };
     for (size_t i = 0; i < sizeof rows / sizeof rows[0]; i++)
         compare(group, rows[i].hour, rows[i].want);
+}
+
+/* 02, Item 1, and further dates looked up in calendars, at every hour */
+static void compare_figures_of_item_1(struct group *group)
+{
+    static const struct { uint32_t year, month, day; bool has_peak_hours; } rows[] = {
+        /* named there */
+        { 2009, 7, 3, false },   /* Friday; the 4th is a Saturday */
+        { 2010, 7, 5, false },   /* Monday; the 4th is a Sunday */
+        { 2012, 1, 2, false },   /* Monday; the 1st is a Sunday */
+        { 2021, 6, 18, false },  /* Friday; the 19th is a Saturday */
+        /* 4 July */
+        { 2009, 7, 6, true },    /* Monday; the 4th is a Saturday */
+        { 2010, 7, 2, true },    /* Friday; the 4th is a Sunday */
+        { 2014, 7, 3, true },    /* Thursday */
+        { 2014, 7, 4, false },   /* Friday */
+        { 2014, 7, 7, true },    /* Monday */
+        { 2015, 7, 2, true },    /* Thursday */
+        { 2015, 7, 3, false },   /* Friday; the 4th is a Saturday */
+        { 2020, 7, 3, false },   /* Friday; the 4th is a Saturday */
+        { 2020, 7, 6, true },    /* Monday */
+        { 2021, 7, 2, true },    /* Friday */
+        { 2021, 7, 4, false },   /* Sunday */
+        { 2021, 7, 5, false },   /* Monday; the 4th is a Sunday */
+        { 2021, 7, 6, true },    /* Tuesday */
+        { 2099, 7, 3, false },   /* Friday; the 4th is a Saturday */
+        { 2100, 7, 5, false },   /* Monday; the 4th is a Sunday */
+        /* 1 January */
+        { 2010, 12, 31, false }, /* Friday; no peak hour in December */
+        { 2011, 1, 1, false },   /* Saturday */
+        { 2011, 1, 3, true },    /* Monday; the 1st is a Saturday */
+        { 2012, 1, 3, true },    /* Tuesday; the 1st is a Sunday */
+        { 2017, 1, 2, false },   /* Monday; the 1st is a Sunday */
+        { 2018, 1, 1, false },   /* Monday */
+        { 2018, 1, 2, true },    /* Tuesday */
+        { 2022, 1, 3, true },    /* Monday; the 1st is a Saturday */
+        { 2023, 1, 2, false },   /* Monday; the 1st is a Sunday */
+        { 2100, 12, 31, false }, /* Friday; no peak hour in December */
+        /* 19 June before 2021 */
+        { 2009, 6, 19, true },   /* Friday */
+        { 2010, 6, 18, true },   /* Friday; the 19th is a Saturday */
+        { 2016, 6, 20, true },   /* Monday; the 19th is a Sunday */
+        { 2020, 6, 18, true },   /* Thursday */
+        { 2020, 6, 19, true },   /* Friday */
+        /* and from 2021 on */
+        { 2021, 6, 17, true },   /* Thursday */
+        { 2021, 6, 21, true },   /* Monday; the 19th is a Saturday */
+        { 2022, 6, 17, true },   /* Friday; the 19th is a Sunday */
+        { 2022, 6, 20, false },  /* Monday; the 19th is a Sunday */
+        { 2023, 6, 19, false },  /* Monday */
+        { 2023, 6, 20, true },   /* Tuesday */
+        { 2024, 6, 19, false },  /* Wednesday */
+        { 2027, 6, 18, false },  /* Friday; the 19th is a Saturday */
+        { 2033, 6, 20, false },  /* Monday; the 19th is a Sunday */
+        { 2100, 6, 18, false },  /* Friday; the 19th is a Saturday */
+    };
+    for (size_t i = 0; i < sizeof rows / sizeof rows[0]; i++)
+        for (uint32_t hour = 1; hour <= 24; hour++) {
+            quadruple q = { { rows[i].year, rows[i].month, rows[i].day, hour } };
+            bool peak = rows[i].has_peak_hours && in_peak_period(rows[i].month, hour);
+            compare(group, q, peak ? PEAK : NOT_PEAK);
+        }
 }
 
 static void compare_every_hour(struct group *group)
@@ -356,22 +449,112 @@ static void compare_other_quadruples(struct group *group)
     }
 }
 
+/* Kept days: weekdays that are free only because a holiday falls on the weekend */
+
+struct kept_days { int days, years, in_peak_months; };
+
+static bool is_weekend_holiday(date d)
+{
+    return is_weekend(d) && is_holiday(d);
+}
+
+static bool is_kept_day(date d)
+{
+    return !is_weekend(d) && !is_holiday(d) && *entry(d) == DAY_OFF;
+}
+
+static struct kept_days count_kept_days(void)
+{
+    struct kept_days n = { 0, 0, 0 };
+    int last_year = 0;
+    for (date d = find_date(FIRST_YEAR, 1, 1); d.year <= LAST_YEAR; d = day_after(d)) {
+        if (!is_kept_day(d))
+            continue;
+        n.days++;
+        n.years += d.year != last_year;
+        n.in_peak_months += in_peak_period((uint32_t)d.month, 19); /* of either season */
+        last_year = d.year;
+    }
+    return n;
+}
+
+/* Gauss */
+static int weekday_of_1_january(int year)
+{
+    int y = year - 1;
+    return (1 + 5 * (y % 4) + 4 * (y % 100) + 6 * (y % 400)) % 7;
+}
+
+/* The same from the weekdays of 1 January alone: 19 June is 28 weeks before the next one,
+   and so on its weekday, 4 July 26 weeks less a day. */
+static struct kept_days reckon_kept_days(void)
+{
+    struct kept_days n = { 0, 0, 0 };
+    for (int year = FIRST_YEAR; year <= LAST_YEAR; year++) {
+        int next_new_year = weekday_of_1_january(year + 1);
+        int june_19 = next_new_year, july_4 = (next_new_year + 1) % 7;
+        bool january_2 = weekday_of_1_january(year) == SUNDAY;
+        bool june_18_or_20 = year >= FIRST_YEAR_OF_19_JUNE
+            && (june_19 == SATURDAY || june_19 == SUNDAY);
+        bool july_3_or_5 = july_4 == SATURDAY || july_4 == SUNDAY;
+        bool december_31 = next_new_year == SATURDAY;
+        int in_peak_months = january_2 + june_18_or_20 + july_3_or_5;
+        n.days += in_peak_months + december_31;
+        n.years += in_peak_months + december_31 != 0;
+        n.in_peak_months += in_peak_months;
+    }
+    return n;
+}
+
+/* Kept days that are not beside one weekend holiday, and weekend holidays that are not beside
+   one kept day. */
+static int count_unpaired(void)
+{
+    int unpaired = 0;
+    for (date d = find_date(FIRST_YEAR, 1, 1); d.year <= LAST_YEAR; d = day_after(d)) {
+        date before = day_before(d), after = day_after(d);
+        if (is_kept_day(d))
+            unpaired += is_weekend_holiday(before) + is_weekend_holiday(after) != 1;
+        if (is_weekend_holiday(d))
+            unpaired += is_kept_day(before) + is_kept_day(after) != 1;
+    }
+    return unpaired;
+}
+
+static bool report_kept_days(void)
+{
+    struct kept_days n = count_kept_days(), m = reckon_kept_days();
+    int unpaired = count_unpaired();
+    bool passed = n.days == m.days && n.years == m.years
+        && n.in_peak_months == m.in_peak_months && unpaired == 0;
+    printf("%-4s kept days: %d in %d years of %d to %d, %d in peak months",
+           passed ? "ok" : "FAIL", n.days, n.years, FIRST_YEAR, LAST_YEAR, n.in_peak_months);
+    if (!passed)
+        printf("; from 1 January %d in %d years, %d in peak months; %d unpaired", m.days, m.years,
+               m.in_peak_months, unpaired);
+    printf("\n");
+    return passed;
+}
+
 int main(void)
 {
     struct group figures = { .name = "figures a to d" };
+    struct group item_1 = { .name = "figures of 02, Item 1" };
     struct group every_hour = { .name = "every hour of 2005 to 2102",
                                 .needs_every_answer = true };
     struct group others = { .name = "other quadruples" };
-    const struct group *groups[] = { &figures, &every_hour, &others };
+    const struct group *groups[] = { &figures, &item_1, &every_hour, &others };
     int tally[2] = { 0, 0 };
 
     fill_calendar();
     compare_figures(&figures);
+    compare_figures_of_item_1(&item_1);
     compare_every_hour(&every_hour);
     compare_other_quadruples(&others);
 
     for (size_t i = 0; i < sizeof groups / sizeof groups[0]; i++)
         tally[report(groups[i])]++;
+    tally[report_kept_days()]++;
     printf("%d passed, %d failed\n", tally[true], tally[false]);
     return tally[false] != 0;
 }
