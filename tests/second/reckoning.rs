@@ -191,11 +191,21 @@ struct Records {
 }
 
 // ---------------------------------------------------------------------------------------------
-// 01, Hours: the calendar and the peak hours
+// 01, Hours, and 02, Item 1: the calendar and the peak hours
 // ---------------------------------------------------------------------------------------------
 
 const NO_DAY: u16 = u16::MAX;
+
+const MONDAY: u32 = 0;
+const FRIDAY: u32 = 4;
 const SATURDAY: u32 = 5;
+const SUNDAY: u32 = 6;
+
+/// 02, Item 1: 19 June is added from this calendar year.
+const JUNE_19_ADDED: u32 = 2021;
+
+/// Calendar year, month and day.
+type Date = (u32, u32, u32);
 
 fn is_leap(year: u32) -> bool {
     year % 4 == 0 && (year % 100 != 0 || year % 400 == 0)
@@ -209,29 +219,77 @@ fn month_length(year: u32, month: u32) -> u32 {
     }
 }
 
-/// 0 is Monday. 1 January 2007 was a Monday.
-fn weekday(year: u32, month: u32, day: u32) -> u32 {
+fn day_before((year, month, day): Date) -> Date {
+    match (month, day) {
+        (1, 1) => (year - 1, 12, 31),
+        (_, 1) => (year, month - 1, month_length(year, month - 1)),
+        _ => (year, month, day - 1),
+    }
+}
+
+fn day_after((year, month, day): Date) -> Date {
+    match month {
+        _ if day < month_length(year, month) => (year, month, day + 1),
+        12 => (year + 1, 1, 1),
+        _ => (year, month + 1, 1),
+    }
+}
+
+/// 1 January 2007 was a Monday.
+fn weekday((year, month, day): Date) -> u32 {
     let years: u32 = (2007..year).map(|y| 365 + is_leap(y) as u32).sum();
     let months: u32 = (1..month).map(|m| month_length(year, m)).sum();
     (years + months + day - 1) % 7
 }
 
-/// 1 January, third Monday of January, third Monday of February, 4 July.
-fn is_holiday(year: u32, month: u32, day: u32) -> bool {
-    let third_monday = weekday(year, month, day) == 0 && (15..=21).contains(&day);
-    (month, day) == (1, 1) || (month <= 2 && third_monday) || (month, day) == (7, 4)
+/// 02, Item 1, in place of 01's list: 1 January, third Monday of January, third Monday of February,
+/// 4 July and 19 June.
+fn holiday_falls_on(date: Date) -> bool {
+    match date {
+        (_, 1, 1) | (_, 7, 4) => true,
+        (year, 6, 19) => year >= JUNE_19_ADDED,
+        (_, 1 | 2, 15..=21) => weekday(date) == MONDAY,
+        _ => false,
+    }
 }
 
-/// The hours ending of a date that are peak hours.
-fn peak_hours(year: u32, month: u32, day: u32) -> &'static [u16] {
-    if weekday(year, month, day) >= SATURDAY || is_holiday(year, month, day) {
-        return &[];
+/// Why a date has no peak hours in its season.
+enum Free {
+    Weekend,
+    Holiday,
+    KeptForSaturday,
+    KeptForSunday,
+}
+
+/// 002 (b): a Saturday, Sunday or federal holiday. 02, Item 1: a holiday that falls on Saturday is
+/// a holiday on the Friday before too, and one that falls on Sunday on the Monday after.
+fn free(date: Date) -> Option<Free> {
+    match weekday(date) {
+        SATURDAY | SUNDAY => Some(Free::Weekend),
+        _ if holiday_falls_on(date) => Some(Free::Holiday),
+        FRIDAY if holiday_falls_on(day_after(date)) => Some(Free::KeptForSaturday),
+        MONDAY if holiday_falls_on(day_before(date)) => Some(Free::KeptForSunday),
+        _ => None,
     }
+}
+
+/// 002 (b): the hours ending that are peak hours on a date of this month that is not free.
+fn season_hours(month: u32) -> &'static [u16] {
     match month {
         6..=8 => &[15, 16, 17, 18, 19],
         1 | 2 => &[8, 9, 19, 20],
         _ => &[],
     }
+}
+
+/// The hours ending of a date that are peak hours.
+fn peak_hours(date: Date) -> &'static [u16] {
+    let hours = season_hours(date.1);
+    // Outside the seasons nothing hangs on the weekday.
+    if hours.is_empty() || free(date).is_some() {
+        return &[];
+    }
+    hours
 }
 
 /// The place of an hour among the hours of the delivery year.
@@ -255,7 +313,7 @@ impl Year {
             for month in months {
                 for day in 1..=month_length(calendar_year, month) {
                     year.day_of[date_index(month as usize, day as usize)] = year.days;
-                    for &hour in peak_hours(calendar_year, month, day) {
+                    for &hour in peak_hours((calendar_year, month, day)) {
                         year.peak.push(place(year.days, hour));
                     }
                     year.days += 1;
@@ -312,9 +370,11 @@ impl Records {
         }
     }
 
-    fn enter_year(&mut self, y: u16) -> Result<(), Refusal> {
+    fn enter_year(&mut self, y: u16, tally: &mut Tally) -> Result<(), Refusal> {
         row(6, !(2007..=2099).contains(&y))?;
-        self.year = Some(Year::new(u32::from(y)));
+        let year = Year::new(u32::from(y));
+        tally.year(u32::from(y), &year);
+        self.year = Some(year);
         Ok(())
     }
 
@@ -605,6 +665,7 @@ fn nets(records: &Records, year: &Year, area: usize, tally: &mut Tally) -> PerPa
         }
         takes.note(&figures);
         tally.unit(&figures);
+        tally.hours(number, unit);
     }
     tally.nets(&nets, &takes);
     nets
@@ -808,7 +869,7 @@ impl Ledger {
             (Some(year), _) => year.days,
         };
         match record {
-            Record::Year { y } => records.enter_year(y),
+            Record::Year { y } => records.enter_year(y, tally),
             Record::Area { area, price } => records.enter_area(area, price, tally),
             Record::Unit {
                 unit,
@@ -948,12 +1009,20 @@ branches! {
     NetWithoutMoney "net other than 0 without money",
     NothingForCeilings "money short, R is 0",
     LeftBesideCeilings "money left over beside ceilings",
+    HourKeptForSaturday "hour on a Friday kept for a Saturday",
+    HourKeptForSunday "hour on a Monday kept for a Sunday",
+    HourOfJune19 "hour on 19 June or its kept day from 2021",
+    HourBeforeJune19 "peak hour on 19 June or its kept day before 2021",
 }
 
 struct Tally {
     counts: [u64; BRANCH_NAMES.len()],
     /// Accepted posts of each area.
     posts: [u64; AREAS],
+    /// The places of hours that 02, Item 1 decides, in time order, and what each counts as.
+    watched: Vec<(u16, Branch)>,
+    /// How many of them have been looked at, of each unit.
+    looked_at: [usize; UNITS],
 }
 
 /// Which parties have a part of V, a share above 0 and a share below 0 in the area.
@@ -979,6 +1048,8 @@ impl Tally {
         Tally {
             counts: [0; BRANCH_NAMES.len()],
             posts: [0; AREAS],
+            watched: Vec::new(),
+            looked_at: [0; UNITS],
         }
     }
 
@@ -988,6 +1059,49 @@ impl Tally {
 
     fn add_if(&mut self, occurred: bool, branch: Branch) {
         self.counts[branch as usize] += u64::from(occurred);
+    }
+
+    /// For the year: the hours that would be peak hours if no holiday were kept there, and those that
+    /// are peak hours because 19 June is no holiday yet. The kept 31 December is in no season.
+    fn year(&mut self, y: u32, year: &Year) {
+        let in_june = [18, 19, 20].map(|day| (y, 6, day));
+        let others = [(y, 7, 3), (y, 7, 5), (y + 1, 1, 2)];
+        for date in in_june.into_iter().chain(others) {
+            let (_, month, day) = date;
+            let free = free(date);
+            let june_19 = match (month, day, weekday(date)) {
+                (6, 18, FRIDAY) | (6, 19, MONDAY..=FRIDAY) | (6, 20, MONDAY) => match free {
+                    Some(_) => Some(Branch::HourOfJune19),
+                    None => Some(Branch::HourBeforeJune19),
+                },
+                _ => None,
+            };
+            let kept = match free {
+                Some(Free::KeptForSaturday) => Some(Branch::HourKeptForSaturday),
+                Some(Free::KeptForSunday) => Some(Branch::HourKeptForSunday),
+                _ => None,
+            };
+            let in_year = year.day_of[date_index(month as usize, day as usize)];
+            for &hour in season_hours(month) {
+                for branch in june_19.into_iter().chain(kept) {
+                    self.watched.push((place(in_year, hour), branch));
+                }
+            }
+        }
+    }
+
+    /// For each unit of the posted area: its watched hours that have not been looked at yet, if they
+    /// are of a kind that counts in a peak hour.
+    fn hours(&mut self, number: usize, unit: &Unit) {
+        let looked_at = &mut self.looked_at[number];
+        while let Some(&(place, branch)) = self.watched.get(*looked_at) {
+            if place >= unit.next {
+                break;
+            }
+            let kind = unit.hours[usize::from(place)] >> 24;
+            self.counts[branch as usize] += u64::from(kind <= 3);
+            *looked_at += 1;
+        }
     }
 
     /// For each unit of the posted area.
