@@ -52,6 +52,13 @@ pub fn date(y: u16, day: u16) -> (u8, u8) {
     panic!("day {day} is not in delivery year {y}")
 }
 
+/// The day of delivery year `y` on which a date falls; day 0 is 1 June.
+fn day_of(y: u16, month: u8, day_of_month: u8) -> u16 {
+    let before = MONTHS.into_iter().take_while(|&earlier| earlier != month);
+    let length = |earlier| u16::from(month_length(calendar_year(y, earlier), earlier));
+    before.map(length).sum::<u16>() + u16::from(day_of_month) - 1
+}
+
 /// 0 is Monday.
 fn weekday(y: u16, day: u16) -> u32 {
     // 1 January 2007 was a Monday.
@@ -60,20 +67,50 @@ fn weekday(y: u16, day: u16) -> u32 {
     (past_years + to_june + u32::from(day)) % 7
 }
 
-fn is_holiday(month: u8, day: u8, weekday: u32) -> bool {
-    let third_monday = weekday == 0 && (15..=21).contains(&day);
-    (month, day) == (1, 1) || (month, day) == (7, 4) || (month <= 2 && third_monday)
+/// A holiday and the weekday on which it is kept, as days of a delivery year.
+#[derive(Clone, Copy)]
+pub struct Holiday {
+    pub day: u16,
+    pub kept: u16,
 }
 
-fn is_peak(y: u16, day: u16, ending: u8) -> bool {
-    let (month, day_of_month) = date(y, day);
-    let weekday = weekday(y, day);
-    let in_period = match month {
-        6..=8 => (15..=19).contains(&ending),
-        1 | 2 => [8, 9, 19, 20].contains(&ending),
-        _ => false,
-    };
-    in_period && weekday < 5 && !is_holiday(month, day_of_month, weekday)
+impl Holiday {
+    /// 02, Item 1: one that falls on a Saturday is kept on the Friday before, one on a Sunday on the Monday after.
+    fn on(y: u16, day: u16) -> Holiday {
+        let kept = match weekday(y, day) {
+            5 => day - 1,
+            6 => day + 1,
+            _ => day,
+        };
+        Holiday { day, kept }
+    }
+}
+
+/// 02, Item 1: the holidays of delivery year `y` in time order; the first, 19 June, is one from 2021 on only.
+pub fn all_five(y: u16) -> [Holiday; 5] {
+    let third_monday = |month| (day_of(y, month, 15)..).find(|&day| weekday(y, day) == 0).expect("a Monday");
+    let days = [day_of(y, 6, 19), day_of(y, 7, 4), day_of(y, 1, 1), third_monday(1), third_monday(2)];
+    days.map(|day| Holiday::on(y, day))
+}
+
+pub fn holidays(y: u16) -> Vec<Holiday> {
+    let from = if y >= 2021 { 0 } else { 1 };
+    all_five(y)[from..].to_vec()
+}
+
+/// The hours ending that are peak hours on the working days of a month.
+pub fn season(month: u8) -> &'static [u8] {
+    match month {
+        6..=8 => &[15, 16, 17, 18, 19],
+        1 | 2 => &[8, 9, 19, 20],
+        _ => &[],
+    }
+}
+
+fn is_peak(y: u16, holidays: &[Holiday], slot: Slot) -> bool {
+    let (day, ending) = (slot_day(slot), slot_ending(slot));
+    let in_season = season(date(y, day).0).contains(&ending);
+    in_season && weekday(y, day) < 5 && holidays.iter().all(|holiday| holiday.day != day && holiday.kept != day)
 }
 
 /// An hour of a delivery year, counted from 0 at hour ending 1 of 1 June.
@@ -95,6 +132,8 @@ pub fn slot_ending(slot: Slot) -> u8 {
 pub fn peak_slots(y: u16) -> &'static [Slot] {
     const YEARS: usize = (LAST_YEAR - FIRST_YEAR) as usize + 1;
     static TABLE: [OnceLock<Vec<Slot>>; YEARS] = [const { OnceLock::new() }; YEARS];
-    TABLE[usize::from(y - FIRST_YEAR)]
-        .get_or_init(|| (0..slots(y)).filter(|&slot| is_peak(y, slot_day(slot), slot_ending(slot))).collect())
+    TABLE[usize::from(y - FIRST_YEAR)].get_or_init(|| {
+        let holidays = holidays(y);
+        (0..slots(y)).filter(|&slot| is_peak(y, &holidays, slot)).collect()
+    })
 }

@@ -1,4 +1,5 @@
-//! The examples of document 001 and the figures of the paper, with lines that come from them alone.
+//! The examples of document 001, the figures of the paper and the dates of 02, Item 1, with lines that come from them
+//! alone.
 
 use crate::calendar::peak_slots;
 use crate::fixed::{hour, whole_year};
@@ -11,7 +12,7 @@ pub struct Example {
 }
 
 pub fn all() -> Vec<Example> {
-    vec![
+    let mut examples = vec![
         example_1(),
         example_1_average(),
         example_1a(),
@@ -31,7 +32,9 @@ pub fn all() -> Vec<Example> {
         figure_i(),
         figure_j(),
         figure_j_without_loads(),
-    ]
+    ];
+    examples.extend(dates_of_item_1());
+    examples
 }
 
 /// Delivery year 2010 has 365 days, as the document's years have.
@@ -318,4 +321,36 @@ fn figure_j() -> Example {
 fn figure_j_without_loads() -> Example {
     let records = WORKED_EXAMPLE.iter().filter(|record| !matches!(record, Load { .. })).copied().collect();
     Example { name: "figure j without Loads", records, expected: "R 7 11\nR 8 11\nR 9 7\nE 9 6\n" }
+}
+
+/// 02, Item 1: two peak hours, two that are not because a holiday is kept on their day, and a peak hour.
+///
+/// S after each peak hour: 0; 500,000; 666,667 (P 333,333), for 365 days 12,166,672.75 cents and for 366 days
+/// 12,200,006.1. The first of the two between them would make it 333,334.
+fn dates_of_item_1() -> [Example; 6] {
+    let dates = [
+        // Saturday 4 July 2009.
+        (2009, "item 1: 3 July 2009 no", [(7, 2, 15), (7, 2, 19), (7, 3, 15), (7, 3, 19), (7, 6, 15)]),
+        // Sunday 4 July 2010. Saturday 1 January 2011 frees no Monday.
+        (2010, "item 1: 5 July 2010 no, 3 January 2011", [(7, 2, 15), (7, 2, 19), (7, 5, 15), (7, 5, 19), (1, 3, 8)]),
+        // Sunday 1 January 2012.
+        (2011, "item 1: 2 January 2012 no", [(7, 5, 15), (7, 5, 19), (1, 2, 8), (1, 2, 20), (1, 3, 8)]),
+        // Friday 19 June is no holiday yet. Saturday 4 July 2020.
+        (2020, "item 1: 18 and 19 June 2020", [(6, 18, 15), (6, 19, 19), (7, 3, 15), (7, 3, 19), (7, 6, 15)]),
+        // Saturday 19 June 2021.
+        (2021, "item 1: 18 June 2021 no", [(6, 17, 15), (6, 17, 19), (6, 18, 15), (6, 18, 19), (6, 21, 15)]),
+        // Sunday 19 June 2022.
+        (2022, "item 1: 20 June 2022 no", [(6, 17, 15), (6, 17, 19), (6, 20, 15), (6, 20, 19), (6, 21, 15)]),
+    ];
+    let days_365 = "P 1 1 -18249817\nP 1 2 18249817\nP 1 1 18249817\nP 1 2 -18249817\n\
+                    P 1 1 -9125000\nP 1 2 9125000\n\
+                    P 1 1 -3041672\nP 1 2 3041672\nE 16 16\n";
+    let days_366 = "P 1 1 -18299817\nP 1 2 18299817\nP 1 1 18299817\nP 1 2 -18299817\n\
+                    P 1 1 -9150000\nP 1 2 9150000\n\
+                    P 1 1 -3050006\nP 1 2 3050006\nE 16 16\n";
+    dates.map(|(y, name, [first, second, third, fourth, fifth])| {
+        let hours = [(first, 0), (second, 3), (third, 0), (fourth, 0), (fifth, 3)];
+        let hours = hours.map(|((month, day, ending), kind)| (month, day, ending, kind));
+        Example { name, records: with_posts(y, &hours), expected: if y == 2011 { days_366 } else { days_365 } }
+    })
 }

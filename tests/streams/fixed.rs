@@ -236,7 +236,7 @@ pub fn peaks(index: usize) -> Vec<u8> {
 }
 
 /// One unit, committed in full, at a price of many cents for each watt; neither its limit nor rule (f) hides an hour.
-fn book_of_one(y: u16) -> Vec<Record> {
+pub fn book_of_one(y: u16) -> Vec<Record> {
     vec![
         Year { y },
         Area { area: 1, price: 50_000 },

@@ -7,6 +7,7 @@ mod compare;
 mod damaged;
 mod examples;
 mod fixed;
+mod holidays;
 mod long;
 mod minimums;
 mod mistakes;
@@ -73,6 +74,8 @@ fn test_all(ledger: &Path, report: &mut Report) {
         report.note(&family.title(), result);
     }
     minimums::check(&counts, report);
+    let (holidays, result) = holidays::tell();
+    report.note(&holidays, result);
     test_pieces(ledger, report);
     // A common year and a leap one: 225 records of set-up and posts, and 32 records for each hour.
     test_year(ledger, 2010, "E 280545 280545\n", report);

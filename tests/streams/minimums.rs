@@ -6,7 +6,7 @@ use crate::report::Report;
 /// For a name that the table does not know.
 const USUAL: u64 = 500;
 
-const MINIMUMS: [(&str, u64); 55] = [
+const MINIMUMS: [(&str, u64); 59] = [
     ("refusal 1", 500),
     ("refusal 2", 10_000),
     ("refusal 3", 2_000),
@@ -62,6 +62,10 @@ const MINIMUMS: [(&str, u64); 55] = [
     ("net other than 0 without money", 2_000),
     ("money short, R is 0", 2_000),
     ("money left over beside ceilings", 2_000),
+    ("hour on a Friday kept for a Saturday", 2_000),
+    ("hour on a Monday kept for a Sunday", 2_000),
+    ("hour on 19 June or its kept day from 2021", 2_000),
+    ("peak hour on 19 June or its kept day before 2021", 10_000),
 ];
 
 pub fn check(counts: &Counts, report: &mut Report) {

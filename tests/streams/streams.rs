@@ -5,7 +5,7 @@ use crate::process::Delivery;
 use crate::random::Random;
 use crate::report::keep;
 use crate::sketch::{random_book, Shape};
-use crate::{damaged, fixed, long, money};
+use crate::{damaged, fixed, holidays, long, money};
 use std::path::Path;
 use std::sync::atomic::{AtomicBool, AtomicUsize, Ordering};
 use std::thread;
@@ -61,6 +61,7 @@ pub fn all() -> Vec<Family> {
         Family::listed("rows of refusal", fixed::rows()),
         Family::made("dates of every year", years, fixed::dates),
         Family::made("every hour of every year", years, fixed::peaks).delivered(Delivery::File),
+        Family::made("hours about the holidays of every year", years, holidays::about),
         Family::listed("worked example, each bit flipped", damaged::bit_flips()),
         Family::listed("fuller book, each bit flipped", damaged::bit_flips_of_a_fuller_book()),
         Family::listed("worked example, each byte changed", damaged::other_bytes()),
