@@ -24,7 +24,7 @@ weekday_steps t e = omega (arith, day_number_steps t.year t.month t.day e)
 
 -- a holiday that has a date falls on day d of month m
 abbrev dated : Bool → ℕ → ℕ → Bool
-dated june_19 m d = is_day 1 1 m d || june_19 && is_day 6 19 m d || is_day 7 4 m d
+dated june_19 m d = is_day 1 1 m d || is_day 7 4 m d || june_19 && is_day 6 19 m d
 
 -- on a date that is no Monday, and so no third Monday, no other holiday falls
 falls_dated : (t : Date) → weekday_of t ≢ monday → holiday_falls_on t ≡ dated (has_june_19 t.year) t.month t.day

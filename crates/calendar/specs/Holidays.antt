@@ -17,34 +17,34 @@ module _ (weekdays : ℕ → ℕ → ℕ) where
   unfoldable pub third_monday : ℕ → ℕ
   third_monday m = first_monday m + 14
 
--- a holiday falls on day d of month m: 1 January, third Monday of January, third Monday of February, 19 June, 4 July
-unfoldable pub falls_on : (ℕ → ℕ → ℕ) → Bool → ℕ → ℕ → Bool
-falls_on weekdays june_19 m d =
-    is_day 1 1 m d
-    || is_day 1 (third_monday weekdays 1) m d
-    || is_day 2 (third_monday weekdays 2) m d
-    || june_19 && is_day 6 19 m d
-    || is_day 7 4 m d
-
 module _ (june_19 : Bool) where
-  -- day d of month m is the day before a holiday that has a date: before 1 January (of the year after), 19 June, 4 July
+  -- day d of month m is the day before a holiday that has a date: before 1 January (of the year after), 4 July, 19 June
   unfoldable pub day_before : ℕ → ℕ → Bool
-  day_before m d = is_day 12 31 m d || june_19 && is_day 6 18 m d || is_day 7 3 m d
+  day_before m d = is_day 12 31 m d || is_day 7 3 m d || june_19 && is_day 6 18 m d
 
   -- and the day after
   unfoldable pub day_after : ℕ → ℕ → Bool
-  day_after m d = is_day 1 2 m d || june_19 && is_day 6 20 m d || is_day 7 5 m d
-
-  -- A holiday that falls on Saturday is a holiday on the Friday before too, and one that falls on Sunday on the Monday after.
-  -- It is asked of the Friday and of the Monday, w being the weekday of day d of month m; laws say it of all dates in the
-  -- paper's words, over the ends of years (HolidayLaws).
-  unfoldable pub kept_on : ℕ → ℕ → ℕ → Bool
-  kept_on m d w = day_before m d && eqb w friday || day_after m d && eqb w monday
+  day_after m d = is_day 1 2 m d || is_day 7 5 m d || june_19 && is_day 6 20 m d
 
 module _ (weekdays : ℕ → ℕ → ℕ) (june_19 : Bool) where
+  -- a holiday falls on day d of month m: 1 January, third Monday of January, third Monday of February, 4 July, and 19 June
+  unfoldable pub falls_on : ℕ → ℕ → Bool
+  falls_on m d =
+      is_day 1 1 m d
+      || is_day 1 (third_monday weekdays 1) m d
+      || is_day 2 (third_monday weekdays 2) m d
+      || is_day 7 4 m d
+      || june_19 && is_day 6 19 m d
+
+  -- A holiday that falls on Saturday is a holiday on the Friday before too, and one that falls on Sunday on the Monday after.
+  -- It is asked of that Friday and that Monday, since a year's weekdays do not say on which day the next begins; laws say it
+  -- of all dates in the paper's words, over the ends of years (HolidayLaws).
+  unfoldable pub kept_on : ℕ → ℕ → Bool
+  kept_on m d = day_before june_19 m d && eqb (weekdays m d) friday || day_after june_19 m d && eqb (weekdays m d) monday
+
   -- a holiday falls on the day, or is kept on it
   unfoldable pub free_day : ℕ → ℕ → Bool
-  free_day m d = falls_on weekdays june_19 m d || kept_on june_19 m d (weekdays m d)
+  free_day m d = falls_on m d || kept_on m d
 
   -- Monday to Friday, not a holiday
   unfoldable pub work_day : ℕ → ℕ → Bool

@@ -12,7 +12,7 @@ const FRIDAY: u64 = 4;
 // Whether a holiday is kept on a day that has the weekday, as it falls on the Saturday after or the Sunday before.
 #[tactic(auto, unfolding(crate::specs::Holidays::kept_on, crate::specs::Holidays::day_before, crate::specs::Holidays::day_after))]
 pub(crate) fn is_kept_on(june_19: bool, month: u32, day: u32, weekday: u64) -> bool
-    ensures { result ≡ kept_on june_19 month day weekday }
+    ensures { result ≡ kept_on (λ m d. weekday) june_19 month day }
 {
     match (month, day) {
         (6, _) if !june_19 => false,

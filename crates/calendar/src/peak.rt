@@ -16,7 +16,7 @@ fn is_in_peak_period(month: u32, hour_ending: u32) -> bool
 
 impl Date {
     // The weekday, which takes most of the time, is worked out once.
-    #[tactic(auto, unfolding(crate::specs::Holidays::work_day, crate::specs::Holidays::free_day))]
+    #[tactic(auto, unfolding(crate::specs::Holidays::work_day, crate::specs::Holidays::free_day, crate::specs::Holidays::kept_on))]
     fn is_peak_day(self) -> bool
         ensures { result ≡ peak_day self.year self.month self.day }
     {
