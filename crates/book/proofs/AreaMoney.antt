@@ -12,13 +12,14 @@ use Rattle.capacity.specs.Quantities.{unforced_watts, watts_of}
 use Rattle.money.specs.declared.Cents.{Cents}
 use Rattle.money.specs.declared.area.Undistributed.{Undistributed}
 use Rattle.money.specs.Quantities.{cents, cents_of}
-use Rattle.money.specs.AreaMoney.{due_most, area_in_range, settled, money_answer}
+use Rattle.money.specs.AreaMoney.{due_most, watts_in_range, area_in_range, settled, money_answer}
 use Rattle.money.specs.Lines.{line, line_answer, lines_answer}
 use Rattle.money.proofs.Bounds.{due_bound}
+use Rattle.money.proofs.Lowered.{lowered_in_range}
 use Rattle.money.proofs.Sixteen.{range_same, settled_same}
 use Rattle.records.specs.Format.{area_count, party_count}
 use Rattle.rules.specs.Facts.{Facts}
-use Rattle.rules.specs.Dues.{days, net_in, due_in, undistributed_in, dues_in, settled_in}
+use Rattle.rules.specs.Dues.{days, net_in, ready_excesses, net_after, due_in, undistributed_in, dues_in, settled_in}
 use Rattle.book.specs.Books.{Book, no_obligations, no_sums, posted_in, facts_of_book, Sound}
 use Rattle.book.specs.Entered.{post_lines, posted_after}
 use Rattle.book.proofs.AreaNets.{element_of, watts_at, days_in_range, nets_in_range}
@@ -46,7 +47,7 @@ module _ (F : Facts) (a : ℕ) where
       go false e = cc
 
 -- what a settled area holds
-settled_is : (F : Facts) (a : ℕ) → settled (net_in F a) (F.area a).price (days F) (F.obligation a) ≡ settled_in F a
+settled_is : (F : Facts) (a : ℕ) → settled (net_after F a) (F.area a).price (days F) (F.obligation a) ≡ settled_in F a
 unfolding settled due_in undistributed_in
 settled_is F a = refl
 
@@ -54,35 +55,40 @@ module _ (b : Book) where
   abbrev F : Facts
   F = facts_of_book b
 
-  pub area_range : Sound b → (a : ℕ) → area_in_range (net_in F a) (F.area a).price (delivery_days b.year) (F.obligation a) ≡ true
+  -- the nets after the ready excesses are in range, as those before are
+  nets_after_in_range : Sound b → (a : ℕ) → watts_in_range (net_after F a) ≡ true
+  unfolding net_after
+  nets_after_in_range s a = lowered_in_range (ready_excesses F a) (net_in F a) (nets_in_range b s a)
+
+  pub area_range : Sound b → (a : ℕ) → area_in_range (net_after F a) (F.area a).price (delivery_days b.year) (F.obligation a) ≡ true
   unfolding area_in_range
   area_range s a =
       simp (
         le-leb _ _ (s.areas.each a),
         le-leb _ _ (within_to 365 366 (delivery_days b.year) (days_in_range b.year)),
         le-leb _ _ (sum_bounded party_count party_count 100000000 (F.obligation a) (le_refl party_count) (s.obligations.each a).each),
-        nets_in_range b s a,
+        nets_after_in_range s a,
       )
 
   pub due_most_lem : Sound b → (a p : ℕ) → p < party_count → nat_abs (due_in F a p) ≤ due_most
   unfolding due_in
-  due_most_lem s a p h = due_bound (net_in F a) (F.area a).price (delivery_days b.year) (F.obligation a) p h (area_range s a)
+  due_most_lem s a p h = due_bound (net_after F a) (F.area a).price (delivery_days b.year) (F.obligation a) p h (area_range s a)
 
   pub money_settled : Sound b → (a : ℕ) → a < area_count → {nets : List UnforcedWatts} {os : List ℕ} {n : ℕ} {m : Result (List Cents) Undistributed}
-      → nets ≡ list_below party_count (λ p. unforced_watts (net_in F a p)) → os ≡ list_below party_count (element (get_or b.obligations a [])) → n ≡ days F
+      → nets ≡ list_below party_count (λ p. unforced_watts (net_after F a p)) → os ≡ list_below party_count (element (get_or b.obligations a [])) → n ≡ days F
       → m ≡ money_answer nets (F.area a).price n os → m ≡ settled_in F a
   unfolding money_answer
   money_settled s a inside {nets} {os} e eo en given =
       given ∙ ap (λ (n : ℕ). money_answer nets price n os) en
-      ∙ simp (range_same (watts_of nets) (net_in F a) price (days F) (element os) (F.obligation a) nets_are loads_are, area_range s a)
-      (settled_same (watts_of nets) (net_in F a) price (days F) (element os) (F.obligation a) nets_are loads_are)
+      ∙ simp (range_same (watts_of nets) (net_after F a) price (days F) (element os) (F.obligation a) nets_are loads_are, area_range s a)
+      (settled_same (watts_of nets) (net_after F a) price (days F) (element os) (F.obligation a) nets_are loads_are)
       ∙ settled_is F a
     where
       price : ℕ
       price = (F.area a).price
 
-      nets_are : (p : ℕ) → p < party_count → watts_of nets p ≡ net_in F a p
-      nets_are = watts_at (net_in F a) e
+      nets_are : (p : ℕ) → p < party_count → watts_of nets p ≡ net_after F a p
+      nets_are = watts_at (net_after F a) e
 
       loads_are : (p : ℕ) → p < party_count → element os p ≡ F.obligation a p
       loads_are p h =

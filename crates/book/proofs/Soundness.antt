@@ -12,10 +12,11 @@ use Rattle.money.specs.AreaMoney.{due_most}
 use Rattle.records.specs.declared.format.UnitRecord.{UnitRecord}
 use Rattle.records.specs.declared.format.CommitmentRecord.{CommitmentRecord}
 use Rattle.records.specs.declared.format.HourRecord.{HourRecord}
+use Rattle.records.specs.declared.format.OwnerRecord.{OwnerRecord}
 use Rattle.records.specs.declared.format.Record.TheVariants as records
-use Rattle.records.specs.declared.format.Record.TheVariants.{Commitment, Hour}
+use Rattle.records.specs.declared.format.Record.TheVariants.{Commitment, Hour, Owner}
 use Rattle.records.specs.Format.{area_count, unit_count, commitment_count, party_count, year_format, area_format, unit_format, commitment_format, hour_format}
-use Rattle.records.specs.Format.{load_format, post_format}
+use Rattle.records.specs.Format.{load_format, post_format, owner_format}
 use Rattle.records.specs.Decoded.{decoded}
 use Rattle.records.specs.Kinds.{Decoded, is_of}
 use Rattle.rules.specs.Facts.{no_area, no_commitment}
@@ -29,7 +30,7 @@ use Rattle.rules.proofs.AcceptedRows.{Accepted, accepted}
 use Rattle.book.specs.declared.UnitEntry.{UnitEntry}
 use Rattle.book.specs.Books.{Book, no_entry, facts_of_book, empty_book, no_obligations, no_sums, SoundUnit, SoundCommitment, Array, Sound}
 use Rattle.book.specs.Steps.{with_posted}
-use Rattle.book.specs.Entered.{new_unit, with_hour, posted_after, after, entered, book_after}
+use Rattle.book.specs.Entered.{new_unit, with_hour, with_owner, posted_after, after, entered, book_after}
 use Rattle.book.proofs.AreaNets.{days_in_range}
 
 -- places without a unit or a commitment
@@ -39,6 +40,7 @@ no_unit_sound =
       rating =
           record { installed_bound = omega arith; eford_most = omega arith; eford5_most = omega arith; efordyear_most = omega arith; class_most = omega arith };
       installed_least = inl refl;
+      owner = inl refl;
       hours_counted = omega arith;
       last_most = omega arith;
       derated_most = omega arith;
@@ -93,6 +95,7 @@ new_unit_sound y r ok =
             class_most = within_to _ _ _ installed.1.1.1.1.0;
           };
       installed_least = inr (within_from _ _ _ installed.0);
+      owner = inl refl;
       hours_counted = omega arith;
       last_most = omega arith;
       derated_most = omega arith;
@@ -144,6 +147,7 @@ with_hour_sound y u h s ok not_out later =
     record {
       rating = s.rating;
       installed_least = s.installed_least;
+      owner = s.owner;
       hours_counted = omega (arith, s.hours_counted, leb-false (hour_index y h) u.last later, counted_once (is_peak y h) h.kind);
       last_most = omega (arith, day_small y h.month h.day, ending);
       derated_most =
@@ -153,6 +157,18 @@ with_hour_sound y u h s ok not_out later =
             add-mul u.hours.service service installed,
             derated_in_service (is_peak y h) h.kind h.derating installed not_out,
           );
+    }
+
+-- a unit with an owner
+with_owner_sound : (y : ℕ) (u : UnitEntry) (o : OwnerRecord) → SoundUnit u → in_range y (Ok (Owner o)) ≡ true → SoundUnit (with_owner u o)
+with_owner_sound y u o s ok =
+    record {
+      rating = s.rating;
+      installed_least = s.installed_least;
+      owner = inr (numbers_fit_lem y (Ok (Owner o)) ok).1.0;
+      hours_counted = s.hours_counted;
+      last_most = s.last_most;
+      derated_most = s.derated_most;
     }
 
 -- every due of a book is one that its lines may add up to
@@ -185,7 +201,9 @@ module _ (b : Book) (r : Decoded) (s : Sound b) (dues : DuesFit b) (ok : Accepte
             (λ q. array_stored _ _ (within_to _ _ _ (fit ok area_format tt q).1.0) s.areas) s.areas;
         units =
             chosen (Array unit_count SoundUnit no_entry) (is_of unit_format r) (λ q. array_stored _ _ (new_unit_sound b.year _ (as_made (facts_of_book b) r ok unit_format tt q).in_range_lem) s.units)
-            (chosen (Array unit_count SoundUnit no_entry) (is_of hour_format r) (λ q. array_stored _ _ (hour_sound _ (as_made (facts_of_book b) r ok hour_format tt q)) s.units) s.units);
+            (chosen (Array unit_count SoundUnit no_entry) (is_of hour_format r) (λ q. array_stored _ _ (hour_sound _ (as_made (facts_of_book b) r ok hour_format tt q)) s.units)
+            (chosen (Array unit_count SoundUnit no_entry) (is_of owner_format r)
+            (λ q. array_stored _ _ (with_owner_sound b.year _ _ (s.units.each _) (as_made (facts_of_book b) r ok owner_format tt q).in_range_lem) s.units) s.units));
         commitments =
             chosen (Array commitment_count SoundCommitment no_commitment) (is_of commitment_format r)
             (λ q. array_stored _ _ (commitment_sound b.year _ (as_made (facts_of_book b) r ok commitment_format tt q).in_range_lem) s.commitments) s.commitments;

@@ -26,7 +26,7 @@ pub record Book : Type 0 where
 
 -- no unit
 abbrev pub no_entry : UnitEntry
-no_entry = record { entry = no_unit; hours = no_hours; last = 0 }
+no_entry = record { entry = no_unit; owner = 0; hours = no_hours; last = 0 }
 
 -- an area's parties without obligations, and without lines
 abbrev pub no_obligations : List ℕ
@@ -51,6 +51,7 @@ facts_of_book b = record {
   unit = λ k. (get_or b.units k no_entry).entry;
   commitment = commitment_in b.commitments;
   obligation = obligation_in b.obligations;
+  owner = λ k. (get_or b.units k no_entry).owner;
   hours = λ k. (get_or b.units k no_entry).hours;
   last = λ k. (get_or b.units k no_entry).last;
 }
@@ -82,6 +83,8 @@ pub record SoundUnit (u : UnitEntry) : Type 0 where
   pub rating : SoundRating u.entry.rating
   -- a unit that has an area has a capacity
   pub installed_least : (u.entry.area ≡ 0) ⊎ (1 ≤ u.entry.rating.installed.0)
+  -- its owner, if it has one, is a party
+  pub owner : (u.owner ≡ 0) ⊎ (within 1 party_count u.owner ≡ true)
   -- each hour counts once, and is later than the one before
   pub hours_counted : u.hours.service + u.hours.outage ≤ u.last
   pub last_most : u.last ≤ hours_most

@@ -1,4 +1,4 @@
--- What a string is answered with, and the book after it. 01, Records, Places of refusal, Hours and Area money.
+-- What a string is answered with, and the book after it. 01, Records, Places of refusal, Hours and Area money; 02, Item 2.
 use Rattle.std.specs.Prelude.{cond, List, [], ◌∷◌, ℕ, pos, eqb, get_or, set, Result, Ok, Err}
 use Rattle.numbers.specs.Lists.{list_below}
 use Rattle.money.specs.declared.Cents.{Cents}
@@ -7,9 +7,10 @@ use Rattle.money.specs.Lines.{line}
 use Rattle.records.specs.declared.format.UnitRecord.{UnitRecord}
 use Rattle.records.specs.declared.format.HourRecord.{HourRecord}
 use Rattle.records.specs.declared.format.LoadRecord.{LoadRecord}
+use Rattle.records.specs.declared.format.OwnerRecord.{OwnerRecord}
 use Rattle.records.specs.Format.{party_count}
 use Rattle.records.specs.Decoded.{decoded}
-use Rattle.records.specs.Kinds.{Decoded, of_year, of_area, of_unit, of_commitment, of_hour, of_load, of_post}
+use Rattle.records.specs.Kinds.{Decoded, of_year, of_area, of_unit, of_commitment, of_hour, of_load, of_post, of_owner}
 use Rattle.rules.specs.Hours.{hour_index, counted}
 use Rattle.rules.specs.Facts.{no_hours}
 use Rattle.rules.specs.Dues.{due_in}
@@ -19,13 +20,17 @@ use Rattle.rules.specs.Rules.{area_index, unit_index, number_index, party_index,
 use Rattle.book.specs.declared.UnitEntry.{UnitEntry}
 use Rattle.book.specs.Books.{Book, facts_of_book, empty_book, Sound, no_entry, no_obligations, posted_in}
 
--- a unit as it is entered, without hours
+-- a unit as it is entered, without owner and hours
 abbrev pub new_unit : UnitRecord → UnitEntry
-new_unit r = record { entry = r; hours = no_hours; last = 0 }
+new_unit r = record { entry = r; owner = 0; hours = no_hours; last = 0 }
 
 -- a unit with one accepted Hour record more; an hour that isn't peak only moves the last hour
 abbrev pub with_hour : ℕ → UnitEntry → HourRecord → UnitEntry
-with_hour y u h = record { entry = u.entry; hours = counted y u.hours h; last = hour_index y h }
+with_hour y u h = record { entry = u.entry; owner = u.owner; hours = counted y u.hours h; last = hour_index y h }
+
+-- 02, Item 2: a unit with an owner; a later one replaces
+abbrev pub with_owner : UnitEntry → OwnerRecord → UnitEntry
+with_owner u o = record { entry = u.entry; owner = o.party; hours = u.hours; last = u.last }
 
 -- posted sums after a post of area a: each party's lines there now add up to its due
 unfoldable pub posted_after : Book → ℕ → List (List Cents)
@@ -36,11 +41,13 @@ abbrev pub obligations_after : Book → LoadRecord → List (List ℕ)
 obligations_after b l =
     set b.obligations (area_index l.area) (set (get_or b.obligations (area_index l.area) no_obligations) (party_index l.party) l.obligation)
 
--- the units after an accepted record: a new one, or one with an hour more
+-- the units after an accepted record: a new one, or one with an hour more or an owner
 abbrev pub units_after : Book → Decoded → List UnitEntry
 units_after b r =
     of_unit
-    (of_hour b.units (λ h. set b.units (unit_index h.unit) (with_hour b.year (get_or b.units (unit_index h.unit) no_entry) h)) r)
+    (of_hour
+    (of_owner b.units (λ o. set b.units (unit_index o.unit) (with_owner (get_or b.units (unit_index o.unit) no_entry) o)) r)
+    (λ h. set b.units (unit_index h.unit) (with_hour b.year (get_or b.units (unit_index h.unit) no_entry) h)) r)
     (λ u. set b.units (unit_index u.unit) (new_unit u))
     r
 

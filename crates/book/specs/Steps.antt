@@ -1,9 +1,11 @@
 -- What the private functions of a post work out, step by step. A reader of the public contracts needs none of it.
-use Rattle.std.specs.Prelude.{cond, List, ℕ, ◌+◌, ◌*◌, eqb}
-use Rattle.capacity.specs.Shortfall.{commitment_most, watt_days}
+use Rattle.std.specs.Prelude.{cond, List, ℕ, ◌+◌, ◌*◌, ℤ, eqb}
+use Rattle.capacity.specs.Shortfall.{commitment_most, watt_days, committed_answer, shortfall_answer}
 use Rattle.money.specs.declared.Cents.{Cents}
 use Rattle.records.specs.declared.format.CommitmentRecord.{CommitmentRecord}
+use Rattle.rules.specs.Facts.{is_entered}
 use Rattle.rules.specs.Dues.{undistributed_in}
+use Rattle.book.specs.declared.UnitEntry.{UnitEntry}
 use Rattle.book.specs.Books.{Book, facts_of_book}
 use Rattle.book.specs.Entered.{Answer, posted_after, no_lines, post_lines, answer}
 
@@ -14,6 +16,10 @@ part_most = commitment_most * 366
 -- what a commitment adds to party p's part of unit u's V
 unfoldable pub commitment_part : CommitmentRecord → ℕ → ℕ → ℕ
 commitment_part c u p = cond (eqb c.party (p + 1)) (cond (eqb c.unit (u + 1)) (watt_days c.watts c.first c.last) 0) 0
+
+-- the limited S of a unit, as the functions of `capacity` answer it
+abbrev pub unit_answer : UnitEntry → ℕ → ℕ → ℤ
+unit_answer u v days = shortfall_answer u.entry.rating u.hours (committed_answer u.entry.rating (is_entered u.owner) v days)
 
 -- a Post changes only the posted sums
 abbrev pub with_posted : Book → List (List Cents) → Book

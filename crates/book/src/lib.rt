@@ -14,10 +14,12 @@ use rules::indices::{self, area_named, index, unit_named};
 use rules::refusal::{Asked, Refusal};
 use std::marker::Model;
 
-// A unit: its record, and what its accepted hours come to; by default all zeros, which is no unit.
+// A unit: its record, its owner, and what its accepted hours come to; by default all zeros, which is no unit.
 #[derive(Clone, Copy, Default)]
 pub struct UnitEntry {
     entry: UnitRecord,
+    // The number of the party that owns it; 0 where it has no owner, and no Option: parties are numbered from 1.
+    owner: u32,
     hours: HourCounts,
     // The index of the last accepted hour; 0 where there is none, and no Option: every hour is then later.
     last: u64,
@@ -98,6 +100,7 @@ impl Book {
                 self.obligations[i][p] = l.obligation;
             }
             Record::Post(_) => return self.post(i),
+            Record::Owner(o) => self.units[j] = unit.with_owner(o),
         }
         Ok([Cents::zero(); Book::PARTIES])
     }

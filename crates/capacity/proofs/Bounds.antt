@@ -1,17 +1,19 @@
 -- Laws of bounds: why 64 bits are enough.
-use Rattle.std.proofs.Common.{◌≡◌, true, ℕ, ◌+◌, ◌-◌, ◌*◌, ◌≤◌, ◌<◌, le_trans, mul-le-mul, add-one, arith, ℤ, nat_abs, le-leb}
+use Rattle.std.proofs.Common.{◌≡◌, Bool, true, ℕ, ◌+◌, ◌-◌, ◌*◌, ◌≤◌, ◌<◌, le_trans, mul-le-mul, add-one, arith, ℤ, nat_abs, le-leb}
 use Rattle.numbers.specs.Sum.{sum_below}
 use Rattle.numbers.specs.Signed.{above, below, sum_below_ℤ}
 use Rattle.numbers.specs.Split.{split_signed}
 use Rattle.numbers.proofs.Sums.{sum_term, sum_at_most, sum_exchange, sum_bounded}
-use Rattle.numbers.proofs.Sizes.{above_size, below_size, sum_size, share_size}
+use Rattle.numbers.proofs.Sizes.{above_size, below_size, difference_size, sum_size, share_size}
+use lib.IntN.{sub_ℕ}
+use Rattle.numbers.proofs.SignedSums.{add_differences}
 use Rattle.numbers.proofs.Splits.{shares_at_most, share_at_most}
 use Rattle.capacity.specs.declared.rating.Rating.{Rating}
 use Rattle.capacity.specs.declared.rating.HourCounts.{HourCounts}
 use Rattle.capacity.specs.Shortfall.{watt_days, unit_watt_days, unit_committed, limited_shortfall, installed_most, commitment_most, hours_most, watt_days_most}
 use Rattle.capacity.specs.Shortfall.{unit_in_range}
 use Rattle.capacity.specs.Shares.{net, net_most, net_with}
-use Rattle.capacity.proofs.Capacities.{committed_at_most, limited_shortfall_size, UnitRange, unit_range}
+use Rattle.capacity.proofs.Capacities.{unit_committed_at_most, limited_shortfall_size, UnitRange, unit_range}
 
 pub watt_days_fit : {watts last : ℕ} (first : ℕ) → watts ≤ commitment_most → last ≤ 365 → watts * (last - first + 1) ≤ 1830000000
 watt_days_fit first h k = mul-le-mul {n₂ = commitment_most} {m₂ = 366} h (omega arith)
@@ -31,20 +33,28 @@ service_fits h k = mul-le-mul {n₂ = hours_most} {m₂ = installed_most} h k
 pub rated_whole : {t : ℕ} {r : Rating} {h : HourCounts} → t ≤ installed_most → UnitRange r h
     → t * (h.service * r.installed.0 - h.derated) ≤ 219600000000000000
 rated_whole few u =
-    mul-le-mul {n₂ = installed_most} {m₂ = 43920000000} few (omega (arith, service_fits u.service_to u.installed_to))
+    mul-le-mul {n₂ = installed_most} {m₂ = 43920000000} few (omega (arith, service_fits u.service_to u.rating.installed_to))
 
-pub rated_bound : (r : Rating) (h : HourCounts) (v days : ℕ) → unit_in_range r h ≡ true
-    → unit_committed r v days * (h.service * r.installed.0 - h.derated) ≤ 219600000000000000
-rated_bound r h v days q =
+pub rated_bound : (r : Rating) (h : HourCounts) (owned : Bool) (v days : ℕ) → unit_in_range r h ≡ true
+    → unit_committed r owned v days * (h.service * r.installed.0 - h.derated) ≤ 219600000000000000
+rated_bound r h owned v days q =
     let u : UnitRange r h = unit_range q in
-    rated_whole (le_trans (committed_at_most _ _ _ _) u.installed_to) u
+    rated_whole (le_trans (unit_committed_at_most r owned v days) u.rating.installed_to) u
 
-pub shortfall_bound : (r : Rating) (h : HourCounts) (v days : ℕ) → unit_in_range r h ≡ true → nat_abs (limited_shortfall r h v days) ≤ installed_most
-shortfall_bound r h v days q = le_trans (limited_shortfall_size r h v days) (unit_range q).installed_to
+pub shortfall_bound : (r : Rating) (h : HourCounts) (t : ℕ) → unit_in_range r h ≡ true → t ≤ r.installed.0 → nat_abs (limited_shortfall r h t) ≤ installed_most
+shortfall_bound r h t q few = le_trans (limited_shortfall_size r h t) (le_trans few (unit_range q).rating.installed_to)
 
-pub split_bound : (r : Rating) (h : HourCounts) (v days : ℕ) → unit_in_range r h ≡ true → v ≤ watt_days_most
-    → nat_abs (limited_shortfall r h v days) * v ≤ 585600000000000000
-split_bound r h v days q few = mul-le-mul {n₂ = installed_most} {m₂ = watt_days_most} (shortfall_bound r h v days q) few
+pub split_bound : (s : ℤ) (v : ℕ) → nat_abs s ≤ installed_most → v ≤ watt_days_most → nat_abs s * v ≤ 585600000000000000
+split_bound s v small few = mul-le-mul {n₂ = installed_most} {m₂ = watt_days_most} small few
+
+pub ready_excesses_bound : (n : ℕ) (excess : ℕ → ℕ) → n ≤ 32 → ((u : ℕ) → excess u ≤ installed_most) → sum_below n excess ≤ net_most
+ready_excesses_bound n excess few each = sum_bounded n 32 installed_most excess few each
+
+pub excess_steps : (x y : ℕ) → x ≤ net_most → y ≤ net_most → net_with (sub_ℕ 0 x) (sub_ℕ 0 y) ≡ sub_ℕ 0 (x + y)
+unfolding net_with
+excess_steps x y hx hy =
+    simp (le-leb (nat_abs (sub_ℕ 0 x)) net_most (omega (arith, difference_size 0 x)), le-leb (nat_abs (sub_ℕ 0 y)) net_most (omega (arith, difference_size 0 y)))
+    (add_differences 0 x 0 y)
 
 -- the sizes of all parties' nets add up to at most the units' sizes
 nets_size : (n m : ℕ) (S : ℕ → ℤ) (w : ℕ → ℕ → ℕ)

@@ -23,12 +23,12 @@ pub record RatedFits (t : ℕ) (r : Rating) (h : HourCounts) : Type 0 where
 pub rated_fits : {t : ℕ} {r : Rating} {h : HourCounts} → t ≤ installed_most → UnitRange r h → 0 < h.service + h.outage → RatedFits t r h
 rated_fits few u b =
     record {
-      service = service_fits u.service_to u.installed_to;
+      service = service_fits u.service_to u.rating.installed_to;
       derated = u.derated_to;
       whole = rated_whole few u;
       hours = omega arith;
-      divisor = mul-le-mul {n₂ = installed_most} {m₂ = 17568} u.installed_to (omega arith);
-      some = mul-pos u.installed_from b;
+      divisor = mul-le-mul {n₂ = installed_most} {m₂ = 17568} u.rating.installed_to (omega arith);
+      some = mul-pos u.rating.installed_from b;
       floor = le_trans (div-le_self _ _) (rated_whole few u);
     }
 

@@ -1,69 +1,70 @@
--- Laws of signs and of a unit's shares.
-use Rattle.std.proofs.Common.{◌≡◌, refl, ap, List, Bool, true, false, cond, ◌&&◌, ℕ, ◌-◌, ◌*◌, ◌^◌, ◌<◌, min, zero-mul, arith, ℤ, pos, nat_abs}
-use Rattle.numbers.specs.Lists.{list_below, element}
-use Rattle.numbers.specs.Split.{with_sign, split_signed}
-use Rattle.numbers.proofs.Tests.{both_true}
-use Rattle.numbers.proofs.Lists.{list_same}
-use Rattle.numbers.proofs.CappedSums.{capped_test}
-use Rattle.numbers.proofs.Splits.{no_amount, split_same}
+-- Laws of a unit's shares and of a net that excesses lower.
+use Rattle.std.proofs.Common.{◌≡◌, refl, ap, ◌∙◌, ℕ, ◌-◌, ◌<◌, zero-le, arith, ℤ, pos, negsuc, ◌≤◌, ◌≤ℤ◌, le→leb}
+use lib.IntN.{sub_ℕ}
+use lib.Signed.{le_z_yes}
+use Rattle.numbers.specs.Signed.{above, below}
+use Rattle.numbers.specs.Split.{split_signed}
+use Rattle.numbers.proofs.SignedSums.{below_difference, signed_parts}
 use Rattle.numbers.proofs.Sums.{sum_same}
-use Rattle.capacity.specs.declared.rating.Rating.{Rating}
-use Rattle.capacity.specs.declared.rating.HourCounts.{HourCounts}
-use Rattle.capacity.specs.Quantities.{unforced_watts}
-use Rattle.capacity.specs.Shortfall.{watt_days_of, limited_shortfall, watt_days_most, unit_in_range, year_in_range, shortfall_answer}
-use Rattle.capacity.specs.Shares.{unit_share, shares_answer}
-use Rattle.capacity.proofs.Capacities.{YearRange, ranges}
-use Rattle.capacity.proofs.Bounds.{split_bound}
-
--- a capped sum of watt-days answers as the sum itself, and what it answers can be split
-module _ (r : Rating) (h : HourCounts) (days t : ℕ) {v : ℕ} (isv : v ≡ min t (2 ^ 64 - 1)) where
-  capped_range : year_in_range v days ≡ year_in_range t days
-  unfolding year_in_range
-  capped_range = rw (capped_test t watt_days_most (omega arith) isv)
-
-  pub capped_shortfall : shortfall_answer r h v days ≡ shortfall_answer r h t days
-  unfolding shortfall_answer
-  capped_shortfall = go (unit_in_range r h && year_in_range t days) refl
-    where
-      go : (b : Bool) → (unit_in_range r h && year_in_range t days) ≡ b
-          → cond (unit_in_range r h && year_in_range v days) (limited_shortfall r h v days) (pos 0)
-          ≡ cond (unit_in_range r h && year_in_range t days) (limited_shortfall r h t days) (pos 0)
-      go true q =
-          let small : YearRange t days = (ranges q).1 in
-          let same : v ≡ t = omega arith in
-          rw same
-      go false q = rw (capped_range, q)
-
-  pub shortfall_splits : nat_abs (shortfall_answer r h v days) * t < 2 ^ 63
-  unfolding shortfall_answer
-  shortfall_splits = rw capped_shortfall (go (unit_in_range r h && year_in_range t days) refl)
-    where
-      go : (b : Bool) → (unit_in_range r h && year_in_range t days) ≡ b → nat_abs (cond b (limited_shortfall r h t days) (pos 0)) * t < 2 ^ 63
-      go true q = omega (arith, split_bound r h t days (both_true q).0 (ranges q).1.v_to)
-      go false q = omega (arith, zero-mul t)
-
--- the shares of what is answered for a unit
-pub shares_answered : (r : Rating) (h : HourCounts) (parts : List ℕ) (days : ℕ)
-    → list_below 16 (λ p. unforced_watts (split_signed (shortfall_answer r h (watt_days_of (element parts)) days) 16 (element parts) p))
-    ≡ shares_answer r h parts days
-unfolding shortfall_answer unit_share shares_answer split_signed with_sign
-shares_answered r h parts days = go (unit_in_range r h && year_in_range (watt_days_of (element parts)) days)
-  where
-    limited_s : ℤ
-    limited_s = limited_shortfall r h (watt_days_of (element parts)) days
-
-    go : (b : Bool)
-        → list_below 16 (λ p. unforced_watts (split_signed (cond b limited_s (pos 0)) 16 (element parts) p))
-        ≡ cond b (list_below 16 (λ p. unforced_watts (split_signed limited_s 16 (element parts) p))) (list_below 16 (λ p. unforced_watts (pos 0)))
-    go true = refl
-    go false = list_same 16 _ _ (λ p h. ap (λ (n : ℕ). unforced_watts (pos n)) (no_amount 16 (element parts) p))
+use Rattle.numbers.proofs.Splits.{split_same}
+use Rattle.capacity.specs.Shortfall.{watt_days_of}
+use Rattle.capacity.specs.Shares.{unit_share, lowered}
+use Rattle.capacity.proofs.Capacities.{above_le}
 
 -- a unit's shares go by the sixteen parts only
 pub watt_days_same : (w v : ℕ → ℕ) → ((p : ℕ) → p < 16 → w p ≡ v p) → watt_days_of w ≡ watt_days_of v
 unfolding watt_days_of
 watt_days_same w v same = sum_same 16 w v same
 
-pub shares_same : (r : Rating) (hours : HourCounts) (v : ℕ) (w u : ℕ → ℕ) (days : ℕ) → ((p : ℕ) → p < 16 → w p ≡ u p)
-    → (p : ℕ) → p < 16 → unit_share r hours v w days p ≡ unit_share r hours v u days p
+pub shares_same : (s : ℤ) (w v : ℕ → ℕ) → ((p : ℕ) → p < 16 → w p ≡ v p) → (p : ℕ) → p < 16 → unit_share s w p ≡ unit_share s v p
 unfolding unit_share split_signed
-shares_same r hours v w u days same p h = rw (split_same _ 16 w u same p h)
+shares_same s w v same p h = rw (split_same _ 16 w v same p h)
+
+-- 02, Item 2: a net after an excess
+module _ (excess : ℕ) where
+  pub lowered_least : (n : ℤ) → pos 0 ≤ℤ n → pos 0 ≤ℤ lowered excess n
+  unfolding lowered
+  lowered_least (pos n) h = le_z_yes (le→leb 0 (n - excess) zero-le)
+  lowered_least (negsuc n) h = h
+
+  pub lowered_above : (n : ℤ) → above (lowered excess n) ≡ above n - excess
+  unfolding above lowered
+  lowered_above (pos n) = refl
+  lowered_above (negsuc n) = omega arith
+
+  pub lowered_below : (n : ℤ) → below (lowered excess n) ≡ below n
+  unfolding below lowered
+  lowered_below (pos n) = refl
+  lowered_below (negsuc n) = refl
+
+  -- above zero, and not above it
+  pub lowered_from : (n : ℤ) → 0 < above n → pos (above n - excess) ≡ lowered excess n
+  unfolding above lowered
+  lowered_from (pos n) h = refl
+  lowered_from (negsuc n) h = absurd (omega arith)
+
+  pub lowered_no_further : (n : ℤ) → above n ≤ 0 → lowered excess n ≡ n
+  unfolding above lowered
+  lowered_no_further (pos n) h = ap pos (omega arith)
+  lowered_no_further (negsuc n) h = refl
+
+  pub lowered_untouched : (n : ℤ) → n ≤ℤ pos 0 → lowered excess n ≡ n
+  lowered_untouched n h = lowered_no_further n (above_le n 0 h)
+
+pub nothing_lowered : (n : ℤ) → lowered 0 n ≡ n
+unfolding lowered
+nothing_lowered (pos n) = ap pos (omega arith)
+nothing_lowered (negsuc n) = refl
+
+-- watts below zero are an excess of as many
+pub excess_below : (x : ℕ) → below (sub_ℕ 0 x) ≡ x
+excess_below x = below_difference 0 x ∙ omega arith
+
+-- of a signed amount, what lies below zero
+pub excess_is : (z : ℤ) → 0 < below z → z ≡ sub_ℕ 0 (below z)
+unfolding above below
+excess_is (pos n) h = absurd (omega arith)
+excess_is (negsuc n) h = signed_parts (negsuc n)
+
+pub no_excess : (z : ℤ) → below z ≤ 0 → pos 0 ≡ sub_ℕ 0 (below z)
+no_excess z h = let none : below z ≡ 0 = omega arith in rw none refl

@@ -3,7 +3,7 @@ use Rattle.std.specs.Prelude.{◌≡◌, List, [], ◌∷◌, ℕ, ℤ, pos}
 use Rattle.capacity.specs.declared.rating.Rating.{Rating}
 use Rattle.capacity.specs.declared.rating.HourCounts.{HourCounts}
 use Rattle.capacity.specs.Quantities.{installed_watts}
-use Rattle.capacity.specs.Shortfall.{limited, unit_available, unit_shortfall, unit_limit}
+use Rattle.capacity.specs.Shortfall.{unit_available, unit_shortfall, limited_shortfall}
 
 -- a unit: I; e, f, g; class
 abbrev pub rated : ℕ → ℕ → ℕ → ℕ → ℕ → Rating
@@ -23,7 +23,7 @@ pub data CapacityRow : Type 0 where
 abbrev pub CapacityGiven : CapacityRow → Type 0
 CapacityGiven (available_is r h t p) = unit_available r h t ≡ p
 CapacityGiven (shortfall_is r h t s) = unit_shortfall r h t ≡ s
-CapacityGiven (limited_is r h t s) = limited (unit_limit r) (unit_shortfall r h t) ≡ s
+CapacityGiven (limited_is r h t s) = limited_shortfall r h t ≡ s
 
 abbrev pub capacity_rows : List CapacityRow
 capacity_rows =

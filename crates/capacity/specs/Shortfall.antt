@@ -1,4 +1,4 @@
--- From a set to its shortfall. 01, the section of that name; 002 (c) to (g) and (i); 001 for T.
+-- From a set to its shortfall. 01, the section of that name, and 02, Item 2; 002 (c) to (g) and (i); 001 for T.
 -- I and T are installed watts; U, X, G, P and L are unforced watts. Rates e, f and g are hundred-thousandths.
 -- All divisions are floors.
 use Rattle.std.specs.Prelude.{Bool, cond, ◌&&◌, ℕ, ◌+◌, ◌-◌, ◌*◌, ◌/◌, min, max, ℤ, pos, negsuc, eqb, ltb, leb}
@@ -27,6 +27,10 @@ watt_days_of part = sum_below 16 part
 -- T = lower of I and V × 100,000 / ((100,000 − e) × days): in 001 the Total Unit ICAP Commitment Amount
 unfoldable pub committed : ℕ → ℕ → ℕ → ℕ → ℕ
 committed i e v days = min i (v * 100000 / ((100000 - e) * days))
+
+-- 02, Item 2: a unit with V = 0 and an owner, kept ready but not committed
+unfoldable pub is_ready : Bool → ℕ → Bool
+is_ready owned v = owned && eqb v 0
 
 -- the unforced part of installed watts at an outage rate
 unfoldable pub unforced : ℕ → ℕ → ℕ
@@ -72,9 +76,9 @@ unfoldable pub limited : ℕ → ℤ → ℤ
 limited l (pos s) = cond (ltb l s) (pos l) (pos s)
 limited l (negsuc x) = negsuc x
 
--- a unit's T at V watt-days in a delivery year of so many days
-abbrev pub unit_committed : Rating → ℕ → ℕ → ℕ
-unit_committed r v days = committed r.installed.0 r.eford v days
+-- a unit's T at V watt-days in a delivery year of so many days; 02, Item 2: a ready one takes T = I
+unfoldable pub unit_committed : Rating → Bool → ℕ → ℕ → ℕ
+unit_committed r owned v days = cond (is_ready owned v) r.installed.0 (committed r.installed.0 r.eford v days)
 
 -- its P and its S at T
 abbrev pub unit_available : Rating → HourCounts → ℕ → ℕ
@@ -87,9 +91,9 @@ unit_shortfall r h t = shortfall (expected t r.eford5) (unit_available r h t)
 unfoldable pub unit_limit : Rating → ℕ
 unit_limit r = limit (unforced_capacity r.installed.0 r.eford) r.class
 
--- its limited S
-unfoldable pub limited_shortfall : Rating → HourCounts → ℕ → ℕ → ℤ
-limited_shortfall r h v days = limited (unit_limit r) (unit_shortfall r h (unit_committed r v days))
+-- its limited S at T
+unfoldable pub limited_shortfall : Rating → HourCounts → ℕ → ℤ
+limited_shortfall r h t = limited (unit_limit r) (unit_shortfall r h t)
 
 -- The ranges of 01, Records, and what follows from them. I, in watts
 abbrev pub installed_most : ℕ
@@ -114,12 +118,15 @@ watt_days_most = 117120000000
 unfoldable pub rates_in_range : Rating → Bool
 rates_in_range r = leb r.eford rate_most && (leb r.eford5 rate_most && (leb r.efordyear rate_most && leb r.class 2))
 
+unfoldable pub rating_in_range : Rating → Bool
+rating_in_range r = within 1 installed_most r.installed.0 && rates_in_range r
+
 -- each derating is below I and counts in an hour of SH
 unfoldable pub hours_in_range : Rating → HourCounts → Bool
 hours_in_range r h = leb h.service hours_most && (leb h.outage hours_most && leb h.derated (h.service * r.installed.0))
 
 unfoldable pub unit_in_range : Rating → HourCounts → Bool
-unit_in_range r h = within 1 installed_most r.installed.0 && (rates_in_range r && hours_in_range r h)
+unit_in_range r h = rating_in_range r && hours_in_range r h
 
 unfoldable pub year_in_range : ℕ → ℕ → Bool
 year_in_range v days = leb v watt_days_most && within 365 366 days
@@ -128,5 +135,8 @@ year_in_range v days = leb v watt_days_most && within 365 366 days
 unfoldable pub watt_days_answer : ℕ → ℕ → ℕ → ℕ
 watt_days_answer watts first last = cond (leb watts commitment_most && (leb first last && leb last 365)) (watt_days watts first last) 0
 
-unfoldable pub shortfall_answer : Rating → HourCounts → ℕ → ℕ → ℤ
-shortfall_answer r h v days = cond (unit_in_range r h && year_in_range v days) (limited_shortfall r h v days) (pos 0)
+unfoldable pub committed_answer : Rating → Bool → ℕ → ℕ → ℕ
+committed_answer r owned v days = cond (rating_in_range r && year_in_range v days) (unit_committed r owned v days) 0
+
+unfoldable pub shortfall_answer : Rating → HourCounts → ℕ → ℤ
+shortfall_answer r h t = cond (unit_in_range r h && leb t r.installed.0) (limited_shortfall r h t) (pos 0)

@@ -2,6 +2,7 @@
 ghost use Rattle.std.specs.Prelude.{◌≡◌, ◌≤◌, ◌<◌, ◌^◌, pos, nat_abs};
 ghost use Rattle.numbers.specs.Signed.{above, below, difference_answer};
 ghost use Rattle.capacity.specs.Quantities.{unforced_watts};
+ghost use Rattle.capacity.specs.Shares.{excess_watts};
 
 use crate::UnforcedWatts;
 use numbers::signed;
@@ -19,6 +20,18 @@ impl UnforcedWatts {
         ensures { (result ≡ below self.0) × (result ≤ 2 ^ 63) }
     {
         signed::below(self.0)
+    }
+
+    // The same where it is below zero, which is an excess; else 0.
+    #[tactic(auto, using(crate::proofs::Nets::excess_is, crate::proofs::Nets::no_excess))]
+    pub(crate) fn excess(self) -> Self
+        ensures { result ≡ excess_watts (below self.0) }
+    {
+        if 0 < self.below() {
+            self
+        } else {
+            UnforcedWatts(0)
+        }
     }
 
     pub(crate) fn size(self) -> u64

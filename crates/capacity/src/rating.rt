@@ -1,6 +1,6 @@
 // A set's rating and hours, and their ranges.
-ghost use Rattle.std.specs.Prelude.{◌≡◌, ◌&&◌};
-ghost use Rattle.capacity.specs.Shortfall.{rates_in_range, hours_in_range, unit_in_range, year_in_range};
+ghost use Rattle.std.specs.Prelude.{◌≡◌, ◌&&◌, leb};
+ghost use Rattle.capacity.specs.Shortfall.{rates_in_range, rating_in_range, hours_in_range, unit_in_range, year_in_range};
 
 use crate::InstalledWatts;
 use numbers::range::within;
@@ -30,13 +30,13 @@ pub struct HourCounts {
     pub derated: u64,
 }
 
-const INSTALLED_MOST: u64 = 5_000_000;
+pub(crate) const INSTALLED_MOST: u64 = 5_000_000;
 
 const RATE_MOST: u32 = 99_999;
 
 const HOURS_MOST: u64 = 8_784;
 
-const WATT_DAYS_MOST: u64 = 117_120_000_000;
+pub(crate) const WATT_DAYS_MOST: u64 = 117_120_000_000;
 
 impl Rating {
     #[tactic(auto, unfolding(crate::specs::Shortfall::rates_in_range))]
@@ -47,6 +47,13 @@ impl Rating {
             && self.eford5 <= RATE_MOST
             && self.efordyear <= RATE_MOST
             && self.class <= 2
+    }
+
+    #[tactic(auto, unfolding(crate::specs::Shortfall::rating_in_range))]
+    fn rating_in_range(self) -> bool
+        ensures { result ≡ rating_in_range self }
+    {
+        within(1, INSTALLED_MOST, self.installed.0) && self.rates_in_range()
     }
 
     // A product past the greatest number is above any deratings.
@@ -63,9 +70,14 @@ impl Rating {
     fn unit_in_range(self, hours: HourCounts) -> bool
         ensures { result ≡ unit_in_range self hours }
     {
-        within(1, INSTALLED_MOST, self.installed.0)
-            && self.rates_in_range()
-            && self.hours_in_range(hours)
+        self.rating_in_range() && self.hours_in_range(hours)
+    }
+
+    // Whether the hours and a T are in range with it: T is at most I.
+    pub(crate) fn in_range_at(self, hours: HourCounts, commitment: InstalledWatts) -> bool
+        ensures { result ≡ (unit_in_range self hours && leb commitment.0 self.installed.0) }
+    {
+        self.unit_in_range(hours) && commitment.0 <= self.installed.0
     }
 }
 
@@ -76,10 +88,9 @@ fn year_in_range(v: u64, days: u64) -> bool
     v <= WATT_DAYS_MOST && within(365, 366, days)
 }
 
-// Whether a unit's rating and hours, its watt-days and the days of the year are in range. Four arguments here and in the public
-// functions, as the definitions take them; what is in range is one value, `CommittedUnit`.
-pub(crate) fn in_range(rating: Rating, hours: HourCounts, v: u64, days: u64) -> bool
-    ensures { result ≡ (unit_in_range rating hours && year_in_range v days) }
+// Whether a unit's rating, its watt-days and the days of the year are in range.
+pub(crate) fn in_range(rating: Rating, v: u64, days: u64) -> bool
+    ensures { result ≡ (rating_in_range rating && year_in_range v days) }
 {
-    rating.unit_in_range(hours) && year_in_range(v, days)
+    rating.rating_in_range() && year_in_range(v, days)
 }

@@ -1,9 +1,9 @@
 // From a set to its shortfall. The named formula functions here are where installed watts become unforced ones.
-ghost use Rattle.std.specs.Prelude.{◌≡◌, true, ◌&&◌, ◌+◌, ◌≤◌, ◌<◌, pos};
+ghost use Rattle.std.specs.Prelude.{◌≡◌, true, ◌+◌, ◌≤◌, ◌<◌, pos};
 ghost use Rattle.capacity.specs.Quantities.{installed_watts, unforced_watts};
-ghost use Rattle.capacity.specs.Shortfall.{watt_days_answer, unforced, peak_rated, quarters, unit_committed};
+ghost use Rattle.capacity.specs.Shortfall.{watt_days_answer, is_ready, committed_answer, unforced, peak_rated, quarters};
 ghost use Rattle.capacity.specs.Shortfall.{unit_available, unit_shortfall, shortfall_answer, installed_most, rate_most};
-ghost use Rattle.capacity.specs.Shortfall.{unit_in_range, year_in_range, unit_limit};
+ghost use Rattle.capacity.specs.Shortfall.{unit_in_range, unit_limit};
 
 use crate::rating::{HourCounts, Rating, in_range};
 use crate::{InstalledWatts, UnforcedWatts};
@@ -25,6 +25,30 @@ pub fn watt_days(watts: u64, first: u64, last: u64) -> u64
 }
 
 const WHOLE: u64 = 100_000;
+
+// Whether a unit is kept ready but not committed: it has an owner, and its V is 0.
+#[tactic(auto, unfolding(crate::specs::Shortfall::is_ready))]
+pub fn is_ready(owned: bool, v: u64) -> bool
+    ensures { result ≡ is_ready owned v }
+{
+    owned && v == 0
+}
+
+// A unit's T, from its rating, whether it has an owner, its V and the days of the delivery year; 0 where these are out of range, and
+// no Option: those of a book never are.
+#[tactic(auto, unfolding(crate::specs::Shortfall::committed_answer, crate::specs::Shortfall::unit_committed, crate::specs::Shortfall::committed))]
+pub fn committed(rating: Rating, owned: bool, v: u64, days: u64) -> InstalledWatts
+    ensures { result ≡ installed_watts (committed_answer rating owned v days) }
+{
+    if !in_range(rating, v, days) {
+        return InstalledWatts(0);
+    }
+    if is_ready(owned, v) {
+        return rating.installed;
+    }
+    let average = v * WHOLE / ((WHOLE - u64::from(rating.eford)) * days);
+    InstalledWatts(rating.installed.0.min(average))
+}
 
 impl InstalledWatts {
     // The unforced watts at an outage rate: X of T at f, G of T at g, and U of I at e.
@@ -60,21 +84,6 @@ struct CommittedUnit {
 }
 
 impl CommittedUnit {
-    fn new(rating: Rating, hours: HourCounts, v: u64, days: u64) -> Self
-        requires { (unit_in_range rating hours && year_in_range v days) ≡ true }
-        ensures rating { result.rating ≡ rating }
-        ensures hours { result.hours ≡ hours }
-        ensures commitment { result.commitment ≡ installed_watts (unit_committed rating v days) }
-    {
-        let average = v * WHOLE / ((WHOLE - u64::from(rating.eford)) * days);
-        let commitment = InstalledWatts(rating.installed.0.min(average));
-        Self {
-            rating,
-            hours,
-            commitment,
-        }
-    }
-
     // P before rule (f) of section 10, by one floor.
     #[tactic(auto, unfolding(crate::specs::Shortfall::peak_rated))]
     fn peak_rated(self) -> UnforcedWatts
@@ -123,15 +132,22 @@ impl CommittedUnit {
     }
 }
 
-// A unit's limited shortfall, from its rating, its hours, its V watt-days and the days of the delivery year; 0 where these are
-// out of range, and no Option: those of a book never are.
+// A unit's limited S, from its rating, its hours and its T; 0 where these are out of range, and no Option: those of a book never are.
 #[tactic(auto, unfolding(crate::specs::Shortfall::shortfall_answer))]
-pub fn limited_shortfall(rating: Rating, hours: HourCounts, v: u64, days: u64) -> UnforcedWatts
-    ensures { result ≡ unforced_watts (shortfall_answer rating hours v days) }
+pub fn limited_shortfall(
+    rating: Rating,
+    hours: HourCounts,
+    commitment: InstalledWatts,
+) -> UnforcedWatts
+    ensures { result ≡ unforced_watts (shortfall_answer rating hours commitment.0) }
 {
-    if in_range(rating, hours, v, days) {
+    if rating.in_range_at(hours, commitment) {
         // A shortfall above the limit becomes the limit; an excess, which is below zero, has none.
-        let unit = CommittedUnit::new(rating, hours, v, days);
+        let unit = CommittedUnit {
+            rating,
+            hours,
+            commitment,
+        };
         unit.shortfall().min(unit.limit())
     } else {
         UnforcedWatts(0)

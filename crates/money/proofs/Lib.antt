@@ -3,3 +3,4 @@ pub mod Balance
 pub mod Bounds
 pub mod Dues
 pub mod Sixteen
+pub mod Lowered

@@ -1,14 +1,14 @@
 // The split, one for all who split: a unit's shortfall over parties, an area's charges over ceilings, and what is left of
 // them over obligations.
 ghost use Rattle.std.specs.Prelude.{◌≡◌, ◌&&◌, ◌-◌, ◌*◌, ◌^◌, ◌<◌, min, ltb, length};
-ghost use Rattle.numbers.specs.Sum.{sum_below};
+ghost use Rattle.numbers.specs.Sum.{sum_below, capped};
 ghost use Rattle.numbers.specs.Lists.{list_below, element};
 ghost use Rattle.numbers.specs.Split.{split, split_answer};
 
 // The sum of the weights, or the greatest number where that does not fit.
 #[tactic(auto, using(crate::proofs::Sums::sum_one_more), unfolding(crate::specs::Sum::sum_below))]
 pub fn capped_sum(weights: &[u64]) -> u64
-    ensures { result ≡ min (sum_below (length weights.now) (element weights.now)) (2 ^ 64 - 1) }
+    ensures { result ≡ capped weights.now }
 {
     let mut sum: u64 = 0;
     for weight in weights {

@@ -9,8 +9,8 @@ use Rattle.numbers.proofs.Tests.{within_from}
 use Rattle.money.proofs.Balance.{dues_balance}
 use Rattle.records.specs.declared.format.UnitRecord.{UnitRecord}
 use Rattle.records.specs.declared.format.HourRecord.{HourRecord}
-use Rattle.records.specs.Format.{area_count, unit_count, party_count, year_format, unit_format, commitment_format, hour_format, post_format}
-use Rattle.records.specs.Kinds.{Decoded, numbers_of, is_of, unit_from, commitment_from, hour_from}
+use Rattle.records.specs.Format.{area_count, unit_count, party_count, year_format, unit_format, commitment_format, hour_format, post_format, owner_format}
+use Rattle.records.specs.Kinds.{Decoded, numbers_of, is_of, unit_from, commitment_from, hour_from, owner_from}
 use Rattle.records.proofs.OneKind.{is_made}
 use Rattle.rules.specs.Hours.{hour_index}
 use Rattle.rules.specs.Dues.{due_in, undistributed_in}
@@ -19,7 +19,7 @@ use Rattle.rules.proofs.Named.{named_index}
 use Rattle.rules.proofs.WattDays.{PartyKnown}
 use Rattle.rules.proofs.AcceptedRows.{Accepted}
 use Rattle.rules.proofs.ByKind.{chosen, by_key, by_key_each, as_made, fit}
-use Rattle.promise.specs.Reckoning.{year_of, unit_of, latest_commitment, accepted_hours, last_index, facts_of_list, reckoned_due, reckoned_paid}
+use Rattle.promise.specs.Reckoning.{no_owner, year_of, unit_of, latest_commitment, latest_owner, accepted_hours, last_index, facts_of_list, reckoned_due, reckoned_paid}
 use Rattle.promise.proofs.Falling.{Falling}
 
 -- amounts of the sixteen parties add up to 0
@@ -31,6 +31,8 @@ pub record Kept (acc : List Decoded) : Type 0 where
   pub no_year_lem : year_of acc ≡ 0 → acc ≡ []
   -- a unit that is not entered has no hours
   pub no_hours_lem : (u : ℕ) → (unit_of acc u).unit ≡ 0 → accepted_hours acc u ≡ []
+  -- nor an owner
+  pub no_owner_lem : (u : ℕ) → (unit_of acc u).unit ≡ 0 → latest_owner acc u ≡ no_owner
   -- each hour of a unit is later than the one before it
   pub falling : (u : ℕ) → Falling (year_of acc) (accepted_hours acc u)
   pub parties : (j : ℕ) → PartyKnown (latest_commitment acc j)
@@ -38,8 +40,8 @@ pub record Kept (acc : List Decoded) : Type 0 where
   pub balance : (a : ℕ) → Balanced (reckoned_paid acc a)
 
 pub kept_none : Kept []
-unfolding year_of latest_commitment accepted_hours reckoned_paid sum_below_ℤ
-kept_none = record { no_year_lem = λ e. refl; no_hours_lem = λ u e. refl; falling = λ u. tt; parties = λ j. inl refl; balance = λ a. refl }
+unfolding year_of latest_commitment latest_owner accepted_hours reckoned_paid sum_below_ℤ
+kept_none = record { no_year_lem = λ e. refl; no_hours_lem = λ u e. refl; no_owner_lem = λ u e. refl; falling = λ u. tt; parties = λ j. inl refl; balance = λ a. refl }
 
 -- the list with an accepted record more
 module _ (acc : List Decoded) (k : Kept acc) (r : Decoded) (ok : Accepted (asked (facts_of_list acc) r) r) where
@@ -88,6 +90,16 @@ module _ (acc : List Decoded) (k : Kept acc) (r : Decoded) (ok : Accepted (asked
   hours_known u z =
       by_key (λ hs. hs ≡ []) (is_of hour_format r) (eqb (hour_from (numbers_of r)).unit (u + 1)) (λ q e. absurd (unit_entered q u e z)) (k.no_hours_lem u z)
 
+  -- and by an Owner
+  owners_known : (u : ℕ) → (unit_of acc u).unit ≡ 0 → latest_owner (r ∷ acc) u ≡ no_owner
+  unfolding latest_owner facts_of_list
+  owners_known u z =
+      by_key (λ o. o ≡ no_owner) (is_of owner_format r) (eqb (owner_from (numbers_of r)).unit (u + 1)) (λ q e.
+      let named : unit_index (owner_from (numbers_of r)).unit ≡ u = named_index unit_count _ u (fit ok owner_format tt q).0 e in
+      let none : (unit_of acc (unit_index (owner_from (numbers_of r)).unit)).unit ≡ 0 = rw named z in
+      absurd (omega (arith, ltb-true 0 (unit_of acc (unit_index (owner_from (numbers_of r)).unit)).unit (not-false _ (as_made (facts_of_list acc) r ok owner_format tt q).entered))))
+      (k.no_owner_lem u z)
+
   -- row 10, passed by an Hour; a Year comes before all hours
   hours_fall : (u : ℕ) → Falling (year_of (r ∷ acc)) (accepted_hours (r ∷ acc) u)
   unfolding year_of accepted_hours
@@ -115,4 +127,4 @@ module _ (acc : List Decoded) (k : Kept acc) (r : Decoded) (ok : Accepted (asked
 
   pub kept_more : Kept (r ∷ acc)
   kept_more =
-      record { no_year_lem = year_known; no_hours_lem = λ u z. hours_known u (entered_yet u z); falling = hours_fall; parties = parties_known; balance = lines_balanced }
+      record { no_year_lem = year_known; no_hours_lem = λ u z. hours_known u (entered_yet u z); no_owner_lem = λ u z. owners_known u (entered_yet u z); falling = hours_fall; parties = parties_known; balance = lines_balanced }

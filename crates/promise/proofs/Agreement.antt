@@ -10,8 +10,9 @@ use Rattle.money.specs.Quantities.{cents}
 use Rattle.records.specs.declared.format.UnitRecord.{UnitRecord}
 use Rattle.records.specs.declared.format.HourRecord.{HourRecord}
 use Rattle.records.specs.declared.format.LoadRecord.{LoadRecord}
+use Rattle.records.specs.declared.format.OwnerRecord.{OwnerRecord}
 use Rattle.records.specs.Format.{area_count, unit_count, commitment_count, party_count, year_format, area_format, unit_format, commitment_format, hour_format}
-use Rattle.records.specs.Format.{load_format, post_format}
+use Rattle.records.specs.Format.{load_format, post_format, owner_format}
 use Rattle.records.specs.Kinds.{Decoded, is_of}
 use Rattle.rules.specs.Hours.{hour_index}
 use Rattle.rules.specs.Facts.{no_area, no_commitment, is_entered}
@@ -21,22 +22,23 @@ use Rattle.rules.proofs.AcceptedRows.{Accepted}
 use Rattle.rules.proofs.ByKind.{paired, as_made, fit, by_kind}
 use Rattle.book.specs.declared.UnitEntry.{UnitEntry}
 use Rattle.book.specs.Books.{Book, no_entry, no_obligations, no_sums, obligation_in, facts_of_book, posted_in, empty_book, Sound}
-use Rattle.book.specs.Entered.{new_unit, with_hour, posted_after, obligations_after, units_after, after}
-use Rattle.promise.specs.Reckoning.{year_of, latest_area, unit_of, latest_commitment, latest_load, latest_obligation, accepted_hours, sum_over, last_index, facts_of_list}
+use Rattle.book.specs.Entered.{new_unit, with_hour, with_owner, posted_after, obligations_after, units_after, after}
+use Rattle.promise.specs.Reckoning.{year_of, latest_area, unit_of, latest_commitment, latest_load, latest_obligation, latest_owner, accepted_hours, sum_over, last_index, facts_of_list}
 use Rattle.promise.specs.Reckoning.{counts_of, reckoned_due, reckoned_paid}
 use Rattle.promise.proofs.OneMore.{hour_counts_once}
 use Rattle.promise.proofs.AcceptedLists.{Kept, before_year}
 
--- a unit with these hours, and the unit at index k as the list has it
-abbrev unit_with : ℕ → UnitRecord → List HourRecord → UnitEntry
-unit_with y entry hours = record { entry = entry; hours = counts_of y hours; last = last_index y hours }
+-- a unit with this owner and these hours, and the unit at index k as the list has it
+abbrev unit_with : ℕ → UnitRecord → OwnerRecord → List HourRecord → UnitEntry
+unit_with y entry owner hours = record { entry = entry; owner = owner.party; hours = counts_of y hours; last = last_index y hours }
 
 abbrev unit_in : List Decoded → ℕ → UnitEntry
-unit_in acc k = unit_with (year_of acc) (unit_of acc k) (accepted_hours acc k)
+unit_in acc k = unit_with (year_of acc) (unit_of acc k) (latest_owner acc k) (accepted_hours acc k)
 
-hour_joins : (y : ℕ) (entry : UnitRecord) (h : HourRecord) (hs : List HourRecord) → with_hour y (unit_with y entry hs) h ≡ unit_with y entry (h ∷ hs)
+hour_joins : (y : ℕ) (entry : UnitRecord) (owner : OwnerRecord) (h : HourRecord) (hs : List HourRecord)
+    → with_hour y (unit_with y entry owner hs) h ≡ unit_with y entry owner (h ∷ hs)
 unfolding last_index
-hour_joins y entry h hs = λ i. record { entry = entry; hours = sym (hour_counts_once y h hs) i; last = hour_index y h }
+hour_joins y entry owner h hs = λ i. record { entry = entry; owner = owner.party; hours = sym (hour_counts_once y h hs) i; last = hour_index y h }
 
 pub record Agrees (b : Book) (acc : List Decoded) : Type 0 where
   pub year : b.year ≡ year_of acc
@@ -55,6 +57,7 @@ agreed_facts b acc g = λ i. record {
   unit = λ k. (g.units k i).entry;
   commitment = λ k. g.commitments k i;
   obligation = λ a p. g.obligations a p i;
+  owner = λ k. (g.units k i).owner;
   hours = λ k. (g.units k i).hours;
   last = λ k. (g.units k i).last;
 }
@@ -64,7 +67,7 @@ all_one : {A : Type 0} (n : ℕ) (x : A) (k : ℕ) → get_or (list_below n (λ 
 all_one n x k = each_made (λ c. c ≡ x) x n (λ j. x) refl (λ j h. refl) k
 
 pub agrees_none : Agrees empty_book []
-unfolding year_of latest_area unit_of latest_commitment latest_load accepted_hours sum_over last_index reckoned_paid
+unfolding year_of latest_area unit_of latest_commitment latest_load latest_owner accepted_hours sum_over last_index reckoned_paid
 agrees_none =
     record {
       year = refl;
@@ -90,28 +93,37 @@ module _ {A : Type 0} where
   keyed_more t most n l x d k ok long e = paired (λ m y. get_or m k d ≡ y) t (λ q. keyed most n l x d k (ok q) long e) e
 
 module _ (b : Book) (acc : List Decoded) (s : Sound b) (k : Kept acc) (g : Agrees b acc) where
-  -- a new unit has no hours
+  -- a new unit has no owner and no hours
   new_unit_lem : (u : UnitRecord) (j : ℕ) → within 1 unit_count u.unit ≡ true → is_entered (unit_of acc (unit_index u.unit)).unit ≡ false
       → get_or (set b.units (unit_index u.unit) (new_unit u)) j no_entry
-      ≡ unit_with (year_of acc) (cond (eqb u.unit (j + 1)) u (unit_of acc j)) (accepted_hours acc j)
+      ≡ unit_with (year_of acc) (cond (eqb u.unit (j + 1)) u (unit_of acc j)) (latest_owner acc j) (accepted_hours acc j)
   unfolding sum_over last_index
   new_unit_lem u j ok first =
       keyed unit_count u.unit b.units (new_unit u) no_entry j ok s.units.long (g.units j)
-      ∙ paired (λ x e. x ≡ unit_with (year_of acc) e (accepted_hours acc j)) (eqb u.unit (j + 1)) (λ q. rw (none q)) refl
+      ∙ paired (λ x e. x ≡ unit_with (year_of acc) e (latest_owner acc j) (accepted_hours acc j)) (eqb u.unit (j + 1))
+      (λ q. rw (k.no_owner_lem j (none q), k.no_hours_lem j (none q))) refl
     where
-      none : eqb u.unit (j + 1) ≡ true → accepted_hours acc j ≡ []
+      none : eqb u.unit (j + 1) ≡ true → (unit_of acc j).unit ≡ 0
       none q =
           let new : (unit_of acc (unit_index u.unit)).unit ≡ 0 = omega (arith, ltb-false 0 (unit_of acc (unit_index u.unit)).unit first) in
-          k.no_hours_lem j (rw (named_index unit_count u.unit j ok q) at new)
+          rw (named_index unit_count u.unit j ok q) at new
 
   hour_more : (h : HourRecord) (j : ℕ) → within 1 unit_count h.unit ≡ true
       → get_or (set b.units (unit_index h.unit) (with_hour b.year (get_or b.units (unit_index h.unit) no_entry) h)) j no_entry
-      ≡ unit_with (year_of acc) (unit_of acc j) (cond (eqb h.unit (j + 1)) (h ∷ accepted_hours acc j) (accepted_hours acc j))
+      ≡ unit_with (year_of acc) (unit_of acc j) (latest_owner acc j) (cond (eqb h.unit (j + 1)) (h ∷ accepted_hours acc j) (accepted_hours acc j))
   unfolding last_index
   hour_more h j ok =
       keyed unit_count h.unit b.units _ no_entry j ok s.units.long (g.units j)
-      ∙ paired (λ x hs. x ≡ unit_with (year_of acc) (unit_of acc j) hs) (eqb h.unit (j + 1))
-      (λ q. rw (named_index unit_count h.unit j ok q, g.year, g.units j) (hour_joins (year_of acc) (unit_of acc j) h (accepted_hours acc j))) refl
+      ∙ paired (λ x hs. x ≡ unit_with (year_of acc) (unit_of acc j) (latest_owner acc j) hs) (eqb h.unit (j + 1))
+      (λ q. rw (named_index unit_count h.unit j ok q, g.year, g.units j) (hour_joins (year_of acc) (unit_of acc j) (latest_owner acc j) h (accepted_hours acc j))) refl
+
+  owner_more : (o : OwnerRecord) (j : ℕ) → within 1 unit_count o.unit ≡ true
+      → get_or (set b.units (unit_index o.unit) (with_owner (get_or b.units (unit_index o.unit) no_entry) o)) j no_entry
+      ≡ unit_with (year_of acc) (unit_of acc j) (cond (eqb o.unit (j + 1)) o (latest_owner acc j)) (accepted_hours acc j)
+  owner_more o j ok =
+      keyed unit_count o.unit b.units _ no_entry j ok s.units.long (g.units j)
+      ∙ paired (λ x owner. x ≡ unit_with (year_of acc) (unit_of acc j) owner (accepted_hours acc j)) (eqb o.unit (j + 1))
+      (λ q. rw (named_index unit_count o.unit j ok q, g.units j)) refl
 
   load_stored : (l : LoadRecord) (a p : ℕ) → within 1 area_count l.area ≡ true → within 1 party_count l.party ≡ true
       → obligation_in (obligations_after b l) a p
@@ -144,12 +156,13 @@ module _ (b : Book) (acc : List Decoded) (s : Sound b) (k : Kept acc) (g : Agree
   module _ (r : Decoded) (ok : Accepted (asked (facts_of_list acc) r) r) where
     -- a Year comes before all units
     unit_agrees : (j : ℕ) → get_or (units_after b r) j no_entry ≡ unit_in (r ∷ acc) j
-    unfolding year_of unit_of accepted_hours facts_of_list sum_over last_index
+    unfolding year_of unit_of latest_owner accepted_hours facts_of_list sum_over last_index
     unit_agrees j =
         let P : Decoded → Type 0 = λ x. get_or (units_after b x) j no_entry ≡ unit_in (x ∷ acc) j in
         by_kind P r year_format tt (λ q. g.units j ∙ rw (before_year acc k r ok q))
         (λ y. by_kind P r unit_format tt (λ q. new_unit_lem _ j (fit ok unit_format tt q).0 (as_made (facts_of_list acc) r ok unit_format tt q).first_unit)
-        (λ u. by_kind P r hour_format tt (λ q. hour_more _ j (fit ok hour_format tt q).0) (λ h. rw (y, u, h) (g.units j))))
+        (λ u. by_kind P r hour_format tt (λ q. hour_more _ j (fit ok hour_format tt q).0)
+        (λ h. by_kind P r owner_format tt (λ q. owner_more _ j (fit ok owner_format tt q).0) (λ o. rw (y, u, h, o) (g.units j)))))
 
     pub agrees_more : Agrees (after b r) (r ∷ acc)
     unfolding year_of latest_area latest_commitment latest_load reckoned_paid

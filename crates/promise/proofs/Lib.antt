@@ -11,6 +11,9 @@ pub mod Promised
 pub mod WattDays
 pub mod Storing
 pub mod WholeLogs
+pub mod Written
 pub mod Example
 pub mod AllFigures
 pub mod Ways
+pub mod Unowned
+pub mod Ready

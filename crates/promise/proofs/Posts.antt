@@ -19,7 +19,7 @@ use Rattle.rules.proofs.Named.{index_in_range}
 use Rattle.rules.proofs.ByKind.{paired, by_key, fit, by_kind}
 use Rattle.book.specs.Books.{Book}
 use Rattle.book.specs.Entered.{no_lines, post_lines, entered}
-use Rattle.promise.specs.Reckoning.{year_of, latest_area, unit_of, latest_commitment, latest_load, accepted_hours, facts_of_list, number_for, accepted_with}
+use Rattle.promise.specs.Reckoning.{year_of, latest_area, unit_of, latest_commitment, latest_load, latest_owner, accepted_hours, facts_of_list, number_for, accepted_with}
 use Rattle.promise.specs.Reckoning.{reckoned_due, reckoned_paid, reckoned_line, line_for, answer_for}
 use Rattle.promise.specs.Promise.{Entry, number_of, line_of, is_post}
 use Rattle.promise.specs.Laws.{answered}
@@ -37,7 +37,7 @@ is_post_lem a r =
 
 -- a Post changes no fact
 pub post_keeps : (n : ℕ) (acc : List Decoded) → facts_of_list (Ok (Post n) ∷ acc) ≡ facts_of_list acc
-unfolding facts_of_list year_of latest_area unit_of latest_commitment latest_load accepted_hours
+unfolding facts_of_list year_of latest_area unit_of latest_commitment latest_load latest_owner accepted_hours
 post_keeps n acc = refl
 
 -- no other record moves what is paid in area a

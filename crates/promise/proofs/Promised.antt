@@ -65,7 +65,7 @@ pub same_totals : SameTotals
 same_totals ss ts a p h q r same =
     let kept : (us : List (List ℕ)) → Kept (accepted_of [] us) = λ us. (all_meet empty_book [] meets_none us).kept in
     totals_due ss a p h q
-    ∙ standing_dues (accepted_of [] ss) (accepted_of [] ts) (kept ss) (kept ts) same.year same.units same.areas same.commitments same.loads same.hours a p
+    ∙ standing_dues (accepted_of [] ss) (accepted_of [] ts) (kept ss) (kept ts) same.year same.units same.areas same.commitments same.loads same.owners same.hours a p
     ∙ sym (totals_due ts a p h r)
 
 pub promise_kept : Promise

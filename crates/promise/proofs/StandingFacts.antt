@@ -6,7 +6,7 @@ use Rattle.records.specs.declared.format.LoadRecord.{LoadRecord}
 use Rattle.records.specs.Kinds.{Decoded}
 use Rattle.rules.specs.Facts.{Facts}
 use Rattle.rules.specs.Dues.{due_in}
-use Rattle.promise.specs.Reckoning.{year_of, latest_area, unit_of, latest_commitment, latest_obligation, accepted_hours, counts_of, last_index, facts_of_list, reckoned_due}
+use Rattle.promise.specs.Reckoning.{year_of, latest_area, unit_of, latest_commitment, latest_obligation, latest_owner, accepted_hours, counts_of, last_index, facts_of_list, reckoned_due}
 use Rattle.promise.specs.Standing.{SameStanding, SameStandingWatts}
 use Rattle.promise.proofs.Falling.{same_hours}
 use Rattle.promise.proofs.AcceptedLists.{Kept}
@@ -20,6 +20,7 @@ same_watts rs qs same =
       areas = same.areas;
       commitments = same.commitments;
       loads = λ a p. ap (λ (l : LoadRecord). l.obligation) (same.loads a p);
+      owners = same.owners;
       hours = same.hours;
     }
 
@@ -28,7 +29,7 @@ same_watts rs qs same =
 module _ (rs qs : List Decoded) (k : Kept rs) (l : Kept qs) (year : year_of rs ≡ year_of qs) (units : (u : ℕ) → unit_of rs u ≡ unit_of qs u)
     (areas : (a : ℕ) → latest_area rs a ≡ latest_area qs a) (commitments : (n : ℕ) → latest_commitment rs n ≡ latest_commitment qs n)
     (obligations : (a p : ℕ) → latest_obligation rs a p ≡ latest_obligation qs a p)
-    (hours : (u : ℕ) (h : HourRecord) → Memᴰ h (accepted_hours rs u) ↔ Memᴰ h (accepted_hours qs u)) where
+    (owners : (u : ℕ) → latest_owner rs u ≡ latest_owner qs u) (hours : (u : ℕ) (h : HourRecord) → Memᴰ h (accepted_hours rs u) ↔ Memᴰ h (accepted_hours qs u)) where
   standing_facts : facts_of_list rs ≡ facts_of_list qs
   unfolding facts_of_list
   standing_facts =
@@ -39,6 +40,7 @@ module _ (rs qs : List Decoded) (k : Kept rs) (l : Kept qs) (year : year_of rs �
         unit = λ j. units j i;
         commitment = λ j. commitments j i;
         obligation = λ a p. obligations a p i;
+        owner = λ u. (owners u i).party;
         hours = λ u. counts_of (year i) (same u i);
         last = λ u. last_index (year i) (same u i);
       }

@@ -14,7 +14,7 @@ use Rattle.calendar.specs.Peak.{summer_peak, winter_peak, peak_period, peak_hour
 use Rattle.calendar.specs.DeliveryYear.{delivery_days, calendar_year, is_delivery_date, delivery_day, is_delivery_peak}
 use Rattle.capacity.specs.declared.rating.HourCounts.{HourCounts}
 use Rattle.capacity.specs.Shortfall.{committed, unforced, peak_rated, available, quarters, limit, limited, unit_shortfall, unit_limit}
-use Rattle.capacity.specs.Shortfall.{limited_shortfall}
+use Rattle.capacity.specs.Shortfall.{is_ready, unit_committed, limited_shortfall}
 use Rattle.capacity.specs.Shares.{unit_share}
 use Rattle.money.specs.AreaMoney.{priced, charge, ceiling, charges, ceilings, credit, left, load_share, due, is_undistributed}
 use Rattle.money.specs.Lines.{line}
@@ -30,14 +30,14 @@ use Rattle.rules.specs.Hours.{hour_index, is_peak, service_hour, outage_hour, de
 use Rattle.rules.specs.Facts.{Facts, no_area, no_unit, no_commitment}
 use Rattle.rules.specs.Rules.{index, asked}
 use Rattle.rules.specs.Dues.{due_in}
-use Rattle.promise.specs.Reckoning.{no_load, year_of, latest_area, unit_of, latest_commitment, latest_load, latest_obligation, accepted_hours, sum_over, last_index, facts_of_list}
+use Rattle.promise.specs.Reckoning.{no_load, year_of, latest_area, unit_of, latest_commitment, latest_load, latest_obligation, latest_owner, accepted_hours, sum_over, last_index, facts_of_list}
 use Rattle.promise.specs.Reckoning.{counts_of, reckoned_due, reckoned_paid, reckoned_line}
 use Rattle.promise.specs.Standing.{SameStanding}
 use Rattle.promise.specs.Figures.{year, area, unit, commitment, load, post, answer, no_lines, of_three, before_loads_answers}
 use Rattle.promise.specs.TwoWays.{derated, one_way, another_way, one_way_lines, early_lines, later_lines, TwoWays}
 use Rattle.promise.proofs.Runs.{Fed, none_next, accepted_next, refused_next}
-use Rattle.promise.proofs.Example.{area₁, unit₁, unit₂, commitment₁, commitment₂, load₅, load₇, unloaded, loaded, example, amount_of, added, dues_are}
-use Rattle.promise.proofs.Example.{post_accepted, lines_are, obligations, obligations_listed}
+use Rattle.promise.proofs.Written.{amount_of, dues_are, post_accepted, lines_are}
+use Rattle.promise.proofs.Example.{area₁, unit₁, unit₂, commitment₁, commitment₂, load₅, load₇, unloaded, loaded, example, added, nets_are, obligations, obligations_listed}
 use Rattle.promise.proofs.AllFigures.{before_loads_run}
 
 abbrev hour₁ : HourRecord
@@ -118,30 +118,32 @@ abbrev with_hour : ℕ → Facts
 with_hour price = example price (latest_obligation loaded) counts last
 
 facts_first : facts_of_list first ≡ with_hour 9000
-unfolding facts_of_list year_of latest_area unit_of latest_commitment latest_load accepted_hours
+unfolding facts_of_list year_of latest_area unit_of latest_commitment latest_load latest_owner accepted_hours
 facts_first = refl
 
 facts_early : facts_of_list early ≡ with_hour 100
-unfolding facts_of_list year_of latest_area unit_of latest_commitment latest_load accepted_hours
+unfolding facts_of_list year_of latest_area unit_of latest_commitment latest_load latest_owner accepted_hours
 facts_early = λ i. record {
   year = 2010;
   area = latest_area early;
   unit = λ k. units_same k i;
   commitment = λ k. commitments_same k i;
   obligation = λ a p. (loads_same a p i).obligation;
+  owner = λ u. 0;
   hours = counts;
   last = last;
 }
 
 -- the area's record is replaced; the rest is as it was at the early Post
 facts_second : facts_of_list second ≡ with_hour 9000
-unfolding facts_of_list year_of latest_area unit_of latest_commitment latest_load accepted_hours
+unfolding facts_of_list year_of latest_area unit_of latest_commitment latest_load latest_owner accepted_hours
 facts_second = λ i. record {
   year = 2010;
   area = λ k. areas_same k i;
   unit = (facts_early i).unit;
   commitment = (facts_early i).commitment;
   obligation = (facts_early i).obligation;
+  owner = λ u. 0;
   hours = counts;
   last = last;
 }
@@ -152,7 +154,7 @@ nets = of_three (pos 225000) (neg_ℤ (pos 100000)) (pos 0)
 nets_listed : (price : ℕ) → list_below party_count (added price (latest_obligation loaded) counts last) ≡ nets
 unfolding sum_below within leap_year month_days is_date multiples_below days_before_year day_of_year day_number weekday first_monday third_monday falls_on day_before
     day_after kept_on free_day work_day has_june_19 summer_peak winter_peak peak_period peak_hour calendar_year is_delivery_date is_delivery_peak sum_over is_peak service_hour outage_hour derated_watts
-    list_below unit_share limited_shortfall unit_limit unit_shortfall limited limit quarters available unforced peak_rated committed
+    list_below unit_share unit_committed is_ready limited_shortfall unit_limit unit_shortfall limited limit quarters available unforced peak_rated committed
     split_signed with_sign split first_shares
 nets_listed price = refl
 
@@ -171,10 +173,10 @@ module _ (acc : List Decoded) (price : ℕ) (f : facts_of_list acc ≡ with_hour
   dues_of : {dues : List ℤ} → dues_at price ≡ dues → (p : ℕ) → p < party_count → reckoned_due acc 0 p ≡ amount_of dues p
   unfolding reckoned_due
   dues_of e p h =
-      ap (λ (F : Facts). due_in F 0 p) f ∙ dues_are price (latest_obligation loaded) counts last (nets_listed price) obligations_listed e p h
+      ap (λ (F : Facts). due_in F 0 p) f ∙ dues_are (with_hour price) refl refl nets (nets_are price (latest_obligation loaded) counts last (nets_listed price)) obligations_listed e p h
 
   number_of : undistributed_at price ≡ false → refusal_of (asked (facts_of_list acc) (Ok (Post 1))) (Ok (Post 1)) ≡ 0
-  number_of e = rw f (post_accepted price (latest_obligation loaded) counts last (nets_listed price) obligations_listed e)
+  number_of e = rw f (post_accepted (with_hour price) refl refl nets (nets_are price (latest_obligation loaded) counts last (nets_listed price)) obligations_listed e)
 
 lines_first : list_below party_count (reckoned_line first 0) ≡ one_way_lines
 unfolding list_below reckoned_paid line
@@ -224,7 +226,7 @@ another_fed =
     (accepted_next (post 1) (Ok (Post 1)) second [] refl (number_of second 9000 facts_second money.1) lines_second (none_next (Ok (Post 1) ∷ second)))))))))))))))
 
 standing : SameStanding (Ok (Post 1) ∷ first) (Ok (Post 1) ∷ second)
-unfolding year_of unit_of latest_area latest_commitment latest_load accepted_hours
+unfolding year_of unit_of latest_area latest_commitment latest_load latest_owner accepted_hours
 standing =
     record {
       year = refl;
@@ -232,6 +234,7 @@ standing =
       areas = λ k. sym (areas_same k);
       commitments = λ k. sym (commitments_same k);
       loads = λ a p. sym (loads_same a p);
+      owners = λ k. refl;
       hours = λ u h. (λ m. m, λ m. m);
     }
 

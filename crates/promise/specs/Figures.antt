@@ -38,6 +38,10 @@ load a p obligation = tagged 6 (a ∷ p ∷ bytes 4 obligation)
 abbrev pub post : ℕ → List ℕ
 post a = tagged 7 (a ∷ [])
 
+-- unit; party
+abbrev pub owner : ℕ → ℕ → List ℕ
+owner u p = tagged 8 (u ∷ p ∷ [])
+
 -- one figure as the paper states it
 pub data Figure : Type 0 where
   -- a to d, and 02, Item 1: a weekday or an answer to the peak question

@@ -1,20 +1,24 @@
 -- What the reckoning's definitions give, for all lists, what it has in common with the book, and that any list of strings is
 -- that of a log.
 use Rattle.std.specs.Prelude.{Ok, ◌≡◌, true, false, List, [], ◌∷◌, ◌++◌, map, ℕ, ◌+◌, ◌<◌, pos, ◌+ℤ◌, eqb, take}
-use mathlib.Core.List.{flatten}
+use mathlib.Core.List.{flatten, Memᴰ}
 use Rattle.numbers.specs.Lists.{list_below}
 use Rattle.capacity.specs.Shortfall.{watt_days_of}
-use Rattle.records.specs.declared.format.Record.TheVariants.{Commitment, Load, Post}
+use Rattle.records.specs.declared.format.Record.TheVariants.{Commitment, Load, Post, Owner}
 use Rattle.records.specs.declared.format.CommitmentRecord.{CommitmentRecord}
 use Rattle.records.specs.declared.format.HourRecord.{HourRecord}
 use Rattle.records.specs.declared.format.LoadRecord.{LoadRecord}
-use Rattle.records.specs.Format.{party_count}
-use Rattle.records.specs.Kinds.{Decoded}
+use Rattle.records.specs.declared.format.OwnerRecord.{OwnerRecord}
+use Rattle.records.specs.Format.{party_count, owner_format}
+use Rattle.records.specs.Decoded.{decoded}
+use Rattle.records.specs.Kinds.{Decoded, is_of}
 use Rattle.rules.specs.Hours.{counted}
+use Rattle.rules.specs.Facts.{Facts}
 use Rattle.rules.specs.Dues.{watt_days_in, part_for}
+use Rattle.rules.specs.Laws.{SettledBy01}
 use Rattle.book.specs.Books.{Book, facts_of_book, empty_book}
 use Rattle.book.specs.Entered.{book_after}
-use Rattle.promise.specs.Reckoning.{Answered, latest_commitment, latest_load, counts_of, facts_of_list, number_for, accepted_with, reckoned_due, reckoned_paid}
+use Rattle.promise.specs.Reckoning.{Answered, latest_commitment, latest_load, latest_owner, counts_of, facts_of_list, number_for, accepted_with, reckoned_due, reckoned_paid}
 use Rattle.promise.specs.Reckoning.{reckoned_line, line_for, answers_of, accepted_of}
 use Rattle.promise.specs.Standing.{SameStandingWatts}
 use Rattle.promise.specs.Promise.{Entry, run, from_empty, number_of, line_of, is_post, ends_in_post, total}
@@ -28,6 +32,8 @@ pub record ReckoningLaws : Type 0 where
   pub commitment_replaces : (acc : List Decoded) (c : CommitmentRecord) (k : ℕ) → c.number ≡ k + 1 → latest_commitment (Ok (Commitment c) ∷ acc) k ≡ c
   pub load_replaces : (acc : List Decoded) (l : LoadRecord) (a p : ℕ) → l.area ≡ a + 1 → l.party ≡ p + 1
       → latest_load (Ok (Load l) ∷ acc) a p ≡ l
+  -- 02, Item 2: a later Owner replaces the earlier one of its unit
+  pub owner_replaces : (acc : List Decoded) (o : OwnerRecord) (u : ℕ) → o.unit ≡ u + 1 → latest_owner (Ok (Owner o) ∷ acc) u ≡ o
   -- 01, Fresh reckoning: where a row fits, the list stays as it is
   pub list_kept : (acc : List Decoded) (s : List ℕ) → eqb (number_for acc s) 0 ≡ false → accepted_with acc s ≡ acc
   -- 01, Places of refusal: a refused string has no line other than zero
@@ -48,14 +54,18 @@ answered e = record { number = number_of e; lines = list_below party_count (line
 abbrev pub SameAnswers : Type 0
 SameAnswers = (ss : List (List ℕ)) → map answered (from_empty ss) ≡ answers_of [] ss
 
+-- the reckoning's facts after these strings
+abbrev pub facts_after : List (List ℕ) → Facts
+facts_after ss = facts_of_list (accepted_of [] ss)
+
 -- after any strings the book's facts are the reckoning's
 abbrev pub SameFacts : Type 0
-SameFacts = (ss : List (List ℕ)) → facts_of_book (book_after empty_book ss) ≡ facts_of_list (accepted_of [] ss)
+SameFacts = (ss : List (List ℕ)) → facts_of_book (book_after empty_book ss) ≡ facts_after ss
 
 -- 01, From a set to its shortfall: after any strings the sixteen parties' parts of V, over which S is split, add up to V
 abbrev pub PartsAddUp : Type 0
 PartsAddUp = (ss : List (List ℕ)) (u : ℕ)
-    → watt_days_of (part_for (facts_of_list (accepted_of [] ss)).commitment u) ≡ watt_days_in (facts_of_list (accepted_of [] ss)).commitment u
+    → watt_days_of (part_for (facts_after ss).commitment u) ≡ watt_days_in (facts_after ss).commitment u
 
 -- the run of strings, and of more after them
 pub record RunLaws : Type 0 where
@@ -71,6 +81,10 @@ pub record RunLaws : Type 0 where
 abbrev pub SameTotals : Type 0
 SameTotals = (ss ts : List (List ℕ)) (a p : ℕ) → p < party_count → ends_in_post a (from_empty ss) ≡ true → ends_in_post a (from_empty ts) ≡ true
     → SameStandingWatts (accepted_of [] ss) (accepted_of [] ts) → total a p (from_empty ss) ≡ total a p (from_empty ts)
+
+-- 02, Item 2: strings among which no Owner is are settled as in 01
+abbrev pub WithoutOwners : Type 0
+WithoutOwners = (ss : List (List ℕ)) → ((s : List ℕ) → Memᴰ s ss → is_of owner_format (decoded s) ≡ false) → SettledBy01 (facts_after ss)
 
 -- any list of strings is that of a log: of the strings end to end, with the place where each of them ends
 abbrev pub EveryLog : Type 0

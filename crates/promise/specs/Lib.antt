@@ -4,4 +4,5 @@ pub mod Promise
 pub mod Logs
 pub mod Figures
 pub mod TwoWays
+pub mod ReadySets
 pub mod Laws

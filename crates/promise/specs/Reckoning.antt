@@ -10,9 +10,10 @@ use Rattle.records.specs.declared.format.UnitRecord.{UnitRecord}
 use Rattle.records.specs.declared.format.CommitmentRecord.{CommitmentRecord}
 use Rattle.records.specs.declared.format.HourRecord.{HourRecord}
 use Rattle.records.specs.declared.format.LoadRecord.{LoadRecord}
+use Rattle.records.specs.declared.format.OwnerRecord.{OwnerRecord}
 use Rattle.records.specs.Format.{party_count}
 use Rattle.records.specs.Decoded.{decoded}
-use Rattle.records.specs.Kinds.{Decoded, of_year, of_area, of_unit, of_commitment, of_hour, of_load, of_post}
+use Rattle.records.specs.Kinds.{Decoded, of_year, of_area, of_unit, of_commitment, of_hour, of_load, of_post, of_owner}
 use Rattle.rules.specs.Hours.{hour_index, service_hour, outage_hour, derated_watts}
 use Rattle.rules.specs.Facts.{Facts, no_area, no_unit, no_commitment}
 use Rattle.rules.specs.Dues.{due_in}
@@ -21,6 +22,10 @@ use Rattle.rules.specs.Rules.{refusal}
 -- no Load: all zeros, as what is not entered is in rules' Facts
 abbrev pub no_load : LoadRecord
 no_load = record { area = 0; party = 0; obligation = 0 }
+
+-- and no Owner
+abbrev pub no_owner : OwnerRecord
+no_owner = record { unit = 0; party = 0 }
 
 -- 01, Records, "Standing facts": the year; 0 before it is entered
 unfoldable pub year_of : List Decoded → ℕ
@@ -52,6 +57,15 @@ latest_load (r ∷ rs) a p =
 abbrev pub latest_obligation : List Decoded → ℕ → ℕ → ℕ
 latest_obligation rs a p = (latest_load rs a p).obligation
 
+-- 02, Item 2: a later Owner with the same key (unit) replaces the earlier
+unfoldable pub latest_owner : List Decoded → ℕ → OwnerRecord
+latest_owner [] u = no_owner
+latest_owner (r ∷ rs) u = of_owner (latest_owner rs u) (λ o. cond (eqb o.unit (u + 1)) o (latest_owner rs u)) r
+
+-- its party; 0 where there is none
+abbrev pub owner_of : List Decoded → ℕ → ℕ
+owner_of rs u = (latest_owner rs u).party
+
 -- 01, Records, "Standing facts": the accepted Hour records of a unit
 unfoldable pub accepted_hours : List Decoded → ℕ → List HourRecord
 accepted_hours [] u = []
@@ -80,6 +94,7 @@ facts_of_list acc = record {
   unit = unit_of acc;
   commitment = latest_commitment acc;
   obligation = latest_obligation acc;
+  owner = owner_of acc;
   hours = λ u. counts_of (year_of acc) (accepted_hours acc u);
   last = λ u. last_index (year_of acc) (accepted_hours acc u);
 }

@@ -1,9 +1,10 @@
 // Functions with empty bodies whose contracts are theorems: the gate asks for their proofs by name.
 ghost use Rattle.numbers.specs.Rows.{EachGiven};
 ghost use Rattle.promise.specs.Promise.{Promise};
-ghost use Rattle.promise.specs.Laws.{ReckoningLaws, LinesAddUp, SameAnswers, SameFacts, PartsAddUp, EveryLog, RunLaws, SameTotals};
+ghost use Rattle.promise.specs.Laws.{ReckoningLaws, LinesAddUp, SameAnswers, SameFacts, PartsAddUp, EveryLog, RunLaws, SameTotals, WithoutOwners};
 ghost use Rattle.promise.specs.Figures.{FigureGiven, figures};
 ghost use Rattle.promise.specs.TwoWays.{TwoWays};
+ghost use Rattle.promise.specs.ReadySets.{ReadySets};
 
 // Figures a to j, and those of 02, Item 1.
 pub fn figures()
@@ -23,6 +24,11 @@ pub fn reckoning()
 // What `order` of the promise speaks of occurs, with an Hour, replaced records and an early Post.
 pub fn two_ways()
     ensures { TwoWays }
+{}
+
+// Sets that are kept ready lower their owner's charge (02, Item 2): a worked example.
+pub fn ready_sets()
+    ensures { ReadySets }
 {}
 
 // The book's answers are the reckoning's, so that figure j is the book's too.
@@ -53,6 +59,11 @@ pub fn runs()
 // `order` of the promise, where a Load of 0 W and none at all are the same.
 pub fn order_by_watts()
     ensures { SameTotals }
+{}
+
+// A book without Owner records is settled as in paper 01.
+pub fn without_owners()
+    ensures { WithoutOwners }
 {}
 
 // Any list of strings of bytes, as many as slices hold, can be handed to `log::run`.

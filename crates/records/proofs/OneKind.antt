@@ -5,9 +5,9 @@ use types.Run.{OneOf, miss}
 use Rattle.numbers.specs.Lists.{element}
 use Rattle.records.specs.declared.format.Fault.TheVariants.{Broken}
 use Rattle.records.specs.declared.format.Record.TheVariants as records
-use Rattle.records.specs.declared.format.Record.TheVariants.{Year, Area, Commitment, Hour, Load, Post}
+use Rattle.records.specs.declared.format.Record.TheVariants.{Year, Area, Commitment, Hour, Load, Post, Owner}
 use Rattle.records.specs.Format.{Format, formats}
-use Rattle.records.specs.Kinds.{Decoded, tag_of_record, numbers_of, area_from, unit_from, commitment_from, hour_from, load_from, is_of}
+use Rattle.records.specs.Kinds.{Decoded, tag_of_record, numbers_of, area_from, unit_from, commitment_from, hour_from, load_from, owner_from, is_of}
 
 abbrev pub made : ℕ → List ℕ → Decoded
 made t l =
@@ -18,7 +18,8 @@ made t l =
     (cond (eqb t 5) (Ok (Hour (hour_from l)))
     (cond (eqb t 6) (Ok (Load (load_from l)))
     (cond (eqb t 7) (Ok (Post (element l 0)))
-    (Err Broken)))))))
+    (cond (eqb t 8) (Ok (Owner (owner_from l)))
+    (Err Broken))))))))
 
 rebuilt : (r : Decoded) → 0 < tag_of_record r → r ≡ made (tag_of_record r) (numbers_of r)
 rebuilt (Err f) h = absurd (omega arith)
@@ -29,6 +30,7 @@ rebuilt (Ok (Commitment c)) h = refl
 rebuilt (Ok (Hour k)) h = refl
 rebuilt (Ok (Load l)) h = refl
 rebuilt (Ok (Post p)) h = refl
+rebuilt (Ok (Owner o)) h = refl
 
 pub is_made : (f : Format) (r : Decoded) → T (ltb 0 f.tag) → is_of f r ≡ true → r ≡ made f.tag (numbers_of r)
 is_made f r listed q =

@@ -3,9 +3,9 @@ use Rattle.std.specs.Prelude.{Bool, cond, not, ◌||◌, List, ℕ, ◌+◌, eqb
 use Rattle.numbers.specs.Lists.{element}
 use Rattle.records.specs.declared.format.Fault.TheVariants.{Broken, UnknownTag, WrongLength}
 use Rattle.records.specs.declared.format.Record.TheVariants as records
-use Rattle.records.specs.declared.format.Record.TheVariants.{Year, Area, Commitment, Hour, Load, Post}
-use Rattle.records.specs.Format.{Format, number_at, values_of, year_format, area_format, unit_format, commitment_format, hour_format, load_format, post_format}
-use Rattle.records.specs.Kinds.{Decoded, area_from, unit_from, commitment_from, hour_from, load_from, of_hour}
+use Rattle.records.specs.declared.format.Record.TheVariants.{Year, Area, Commitment, Hour, Load, Post, Owner}
+use Rattle.records.specs.Format.{Format, number_at, values_of, year_format, area_format, unit_format, commitment_format, hour_format, load_format, post_format, owner_format}
+use Rattle.records.specs.Kinds.{Decoded, area_from, unit_from, commitment_from, hour_from, load_from, owner_from, of_hour}
 use Rattle.records.specs.declared.format.HourRecord.{HourRecord}
 use Rattle.records.specs.declared.format.Record.{Record}
 
@@ -38,7 +38,8 @@ framed s =
     (of_tag hour_format s (λ l. Hour (hour_from l))
     (of_tag load_format s (λ l. Load (load_from l))
     (of_tag post_format s (λ l. Post (element l 0))
-    (Err UnknownTag)))))))
+    (of_tag owner_format s (λ l. Owner (owner_from l))
+    (Err UnknownTag))))))))
 
 unfoldable pub decoded : List ℕ → Decoded
 decoded s = cond (is_broken s) (Err Broken) (framed s)

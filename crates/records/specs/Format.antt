@@ -1,5 +1,5 @@
 -- The record format: each tag and its length, and each field's offset in the value, its width in bytes and its range.
--- 01, Records. A record is one tag byte, a two-byte length, then the value; numbers are unsigned, high byte first.
+-- 01, Records, and 02, Item 2. A record is one tag byte, a two-byte length, then the value; numbers are unsigned, high byte first.
 use Rattle.std.specs.Prelude.{List, [], ◌∷◌, map, Bool, true, false, ◌&&◌, ℕ, zero, suc, ◌+◌, ◌*◌, get_or}
 use Rattle.numbers.specs.Range.{within}
 use Rattle.capacity.specs.Shortfall.{installed_most, rate_most, commitment_most}
@@ -85,9 +85,13 @@ load_format = format 6 6 (area_at 0 ∷ party_at 1 ∷ field 2 4 0 100000000 ∷
 abbrev pub post_format : Format
 post_format = format 7 1 (area_at 0 ∷ [])
 
+-- 02, Item 2, 0x08 Owner: unit; party
+abbrev pub owner_format : Format
+owner_format = format 8 2 (unit_at 0 ∷ party_at 1 ∷ [])
+
 abbrev pub formats : List Format
 formats =
-    year_format ∷ area_format ∷ unit_format ∷ commitment_format ∷ hour_format ∷ load_format ∷ post_format ∷ []
+    year_format ∷ area_format ∷ unit_format ∷ commitment_format ∷ hour_format ∷ load_format ∷ post_format ∷ owner_format ∷ []
 
 -- the number of so many bytes of a string, from one on, high byte first
 unfoldable pub number_at : ℕ → List ℕ → ℕ → ℕ

@@ -8,12 +8,13 @@ use Rattle.records.specs.declared.format.UnitRecord.{UnitRecord}
 use Rattle.records.specs.declared.format.CommitmentRecord.{CommitmentRecord}
 use Rattle.records.specs.declared.format.HourRecord.{HourRecord}
 use Rattle.records.specs.declared.format.LoadRecord.{LoadRecord}
+use Rattle.records.specs.declared.format.OwnerRecord.{OwnerRecord}
 use Rattle.records.specs.declared.format.Fault.{Fault}
 use Rattle.records.specs.declared.format.Fault.TheVariants.{Broken, UnknownTag, WrongLength}
 use Rattle.records.specs.declared.format.Record.{Record}
 use Rattle.records.specs.declared.format.Record.TheVariants as records
-use Rattle.records.specs.declared.format.Record.TheVariants.{Year, Area, Commitment, Hour, Load, Post}
-use Rattle.records.specs.Format.{Format, format, year_format, area_format, unit_format, commitment_format, hour_format, load_format, post_format}
+use Rattle.records.specs.declared.format.Record.TheVariants.{Year, Area, Commitment, Hour, Load, Post, Owner}
+use Rattle.records.specs.Format.{Format, format, year_format, area_format, unit_format, commitment_format, hour_format, load_format, post_format, owner_format}
 
 -- what a string of bytes is decoded to: the record of its kind, or what the frame refuses it for
 abbrev pub Decoded : Type 0
@@ -35,6 +36,7 @@ format_of (Ok (Commitment c)) = commitment_format
 format_of (Ok (Hour h)) = hour_format
 format_of (Ok (Load l)) = load_format
 format_of (Ok (Post p)) = post_format
+format_of (Ok (Owner o)) = owner_format
 
 abbrev pub tag_of_record : Decoded → ℕ
 tag_of_record r = (format_of r).tag
@@ -53,6 +55,7 @@ numbers_of (Ok (Commitment c)) = c.number ∷ c.unit ∷ c.party ∷ c.first ∷
 numbers_of (Ok (Hour h)) = h.unit ∷ h.month ∷ h.day ∷ h.hour ∷ h.kind ∷ h.derating ∷ []
 numbers_of (Ok (Load l)) = l.area ∷ l.party ∷ l.obligation ∷ []
 numbers_of (Ok (Post p)) = p ∷ []
+numbers_of (Ok (Owner o)) = o.unit ∷ o.party ∷ []
 
 -- a record of each kind from its numbers
 abbrev pub area_from : List ℕ → AreaRecord
@@ -73,6 +76,9 @@ hour_from l = record { unit = element l 0; month = element l 1; day = element l 
 
 abbrev pub load_from : List ℕ → LoadRecord
 load_from l = record { area = element l 0; party = element l 1; obligation = element l 2 }
+
+abbrev pub owner_from : List ℕ → OwnerRecord
+owner_from l = record { unit = element l 0; party = element l 1 }
 
 -- a record of this format, and of one of these
 abbrev pub is_of : Format → Decoded → Bool
@@ -106,3 +112,6 @@ of_load other given r = of_format load_format other (λ l. given (load_from l)) 
 
 abbrev pub of_post : {A : Type 0} → A → (ℕ → A) → Decoded → A
 of_post other given r = of_format post_format other (λ l. given (element l 0)) r
+
+abbrev pub of_owner : {A : Type 0} → A → (OwnerRecord → A) → Decoded → A
+of_owner other given r = of_format owner_format other (λ l. given (owner_from l)) r

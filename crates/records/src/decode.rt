@@ -5,15 +5,16 @@ ghost use Rattle.std.specs.Prelude.{◌≡◌, ◌≢◌, false, ◌+◌, ◌≤
 ghost use Rattle.numbers.specs.Lists.{element};
 ghost use Rattle.records.specs.declared.format.Fault.TheVariants.{WrongLength};
 ghost use Rattle.records.specs.declared.format.Record.TheVariants as records;
-ghost use Rattle.records.specs.declared.format.Record.TheVariants.{Year, Area, Commitment, Hour, Load, Post};
+ghost use Rattle.records.specs.declared.format.Record.TheVariants.{Year, Area, Commitment, Hour, Load, Post, Owner};
 ghost use Rattle.records.specs.Format.{number_at, bytes_of, values_of, year_format, area_format, unit_format, commitment_format, hour_format, load_format};
-ghost use Rattle.records.specs.Format.{post_format};
-ghost use Rattle.records.specs.Kinds.{area_from, unit_from, commitment_from, hour_from, load_from};
+ghost use Rattle.records.specs.Format.{post_format, owner_format};
+ghost use Rattle.records.specs.Kinds.{area_from, unit_from, commitment_from, hour_from, load_from, owner_from};
 ghost use Rattle.records.specs.Decoded.{is_broken, of_length, framed, decoded, hour_of};
 
 use crate::format::{
     AREA_BYTES, AreaRecord, COMMITMENT_BYTES, CommitmentRecord, Fault, HOUR_BYTES, HourRecord,
-    LOAD_BYTES, LoadRecord, POST_BYTES, Record, UNIT_BYTES, UnitRecord, YEAR_BYTES,
+    LOAD_BYTES, LoadRecord, OWNER_BYTES, OwnerRecord, POST_BYTES, Record, UNIT_BYTES, UnitRecord,
+    YEAR_BYTES,
 };
 use capacity::InstalledWatts;
 use capacity::rating::Rating;
@@ -165,6 +166,16 @@ impl<'a> Framed<'a> {
         Ok(Record::Post(byte(self.bytes, 3)))
     }
 
+    fn owner(self) -> Result<Record, Fault>
+        ensures { result ≡ of_length owner_format self.entry.bytes.now (λ l. Owner (owner_from l)) }
+    {
+        self.has_length(OWNER_BYTES)?;
+        Ok(Record::Owner(OwnerRecord {
+            unit: byte(self.bytes, 3),
+            party: byte(self.bytes, 4),
+        }))
+    }
+
     fn record(self) -> Result<Record, Fault>
         ensures { result ≡ framed self.entry.bytes.now }
     {
@@ -176,6 +187,7 @@ impl<'a> Framed<'a> {
             5 => self.hour(),
             6 => self.load(),
             7 => self.post(),
+            8 => self.owner(),
             _ => Err(Fault::UnknownTag),
         }
     }

@@ -16,6 +16,8 @@ pub(crate) const LOAD_BYTES: usize = 9;
 
 pub(crate) const POST_BYTES: usize = 4;
 
+pub(crate) const OWNER_BYTES: usize = 5;
+
 #[derive(Clone, Copy, Default)]
 pub struct AreaRecord {
     pub area: u32,
@@ -62,6 +64,12 @@ pub struct LoadRecord {
     pub obligation: u32,
 }
 
+#[derive(Clone, Copy)]
+pub struct OwnerRecord {
+    pub unit: u32,
+    pub party: u32,
+}
+
 // What the frame refuses: rows 1, 2 and 3.
 #[derive(Clone, Copy)]
 pub enum Fault {
@@ -82,4 +90,5 @@ pub enum Record {
     Load(LoadRecord),
     // The area.
     Post(u32),
+    Owner(OwnerRecord),
 }

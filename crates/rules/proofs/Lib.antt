@@ -4,3 +4,4 @@ pub mod Fields
 pub mod ByKind
 pub mod HourOrder
 pub mod WattDays
+pub mod Owners

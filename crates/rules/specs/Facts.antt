@@ -1,4 +1,5 @@
--- What the rules ask beyond the string: the standing facts of 01, Records, and the figures of each unit's accepted hours.
+-- What the rules ask beyond the string: the standing facts of 01, Records, and 02, Item 2, and the figures of each unit's accepted
+-- hours.
 -- As an argument, area, unit, commitment and party number k of 01 is k − 1 here; inside a record numbers are the paper's. Where
 -- nothing is entered the record is all zeros, which no accepted record is: their numbers begin with 1.
 use Rattle.std.specs.Prelude.{Bool, ℕ, ltb}
@@ -17,6 +18,8 @@ pub record Facts : Type 0 where
   pub commitment : ℕ → CommitmentRecord
   -- an area's obligation of a party
   pub obligation : ℕ → ℕ → ℕ
+  -- 02, Item 2: the number of the party that owns a unit; 0 where it has no owner
+  pub owner : ℕ → ℕ
   -- what a unit's accepted peak hours come to: SH, FOH and D
   pub hours : ℕ → HourCounts
   -- the index of a unit's last accepted hour; 0 where it has none

@@ -5,7 +5,7 @@ use Rattle.calendar.specs.DeliveryYear.{delivery_days, is_delivery_date}
 use Rattle.records.specs.declared.format.CommitmentRecord.{CommitmentRecord}
 use Rattle.records.specs.declared.format.HourRecord.{HourRecord}
 use Rattle.records.specs.declared.format.Fault.{Fault}
-use Rattle.records.specs.Format.{fields_fit, year_format, unit_format, commitment_format, hour_format, load_format, post_format}
+use Rattle.records.specs.Format.{fields_fit, year_format, unit_format, commitment_format, hour_format, load_format, post_format, owner_format}
 use Rattle.records.specs.Kinds.{Decoded, fault_number, format_of, tag_of_record, numbers_of, is_of, is_one_of, of_unit, of_commitment, of_hour, of_post}
 use Rattle.rules.specs.declared.refusal.Asked.{Asked}
 use Rattle.rules.specs.declared.refusal.Refusal.{Refusal}
@@ -78,12 +78,12 @@ second_year a r = not (eqb a.year 0) && is_year r
 abbrev pub out_of_range : Asked → Decoded → Bool
 out_of_range a r = not (in_range a.year r)
 
--- row 7: not entered: the area of a Unit, Load or Post, or the unit of a Commitment or Hour. `a.area` and `a.unit` say whether
--- the area and the unit that the record names are entered.
+-- row 7: not entered: the area of a Unit, Load or Post, or the unit of a Commitment, Hour or (02, Item 2) Owner. `a.area` and
+-- `a.unit` say whether the area and the unit that the record names are entered.
 abbrev pub not_entered : Asked → Decoded → Bool
 not_entered a r =
     (is_one_of (unit_format ∷ load_format ∷ post_format ∷ []) r && not a.area)
-    || (is_one_of (commitment_format ∷ hour_format ∷ []) r && not a.unit)
+    || (is_one_of (commitment_format ∷ hour_format ∷ owner_format ∷ []) r && not a.unit)
 
 -- row 8: the unit of a Unit record is already entered
 abbrev pub second_unit : Asked → Decoded → Bool

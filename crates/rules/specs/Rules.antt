@@ -6,7 +6,7 @@ use Rattle.records.specs.declared.format.UnitRecord.{UnitRecord}
 use Rattle.records.specs.Kinds.{Decoded}
 use Rattle.records.specs.Decoded.{decoded}
 use Rattle.records.specs.Format.{area_count, unit_count, commitment_count, party_count}
-use Rattle.records.specs.Kinds.{of_area, of_unit, of_commitment, of_hour, of_load, of_post}
+use Rattle.records.specs.Kinds.{of_area, of_unit, of_commitment, of_hour, of_load, of_post, of_owner}
 use Rattle.rules.specs.declared.refusal.Asked.{Asked}
 use Rattle.rules.specs.Refusal.{refusal_of}
 use Rattle.rules.specs.Facts.{Facts, is_entered}
@@ -36,7 +36,8 @@ area_named r =
 
 -- and of the unit
 abbrev pub unit_named : Decoded → ℕ
-unit_named r = unit_index (of_unit (of_commitment (of_hour 0 (λ h. h.unit) r) (λ c. c.unit) r) (λ u. u.unit) r)
+unit_named r =
+    unit_index (of_unit (of_commitment (of_hour (of_owner 0 (λ o. o.unit) r) (λ h. h.unit) r) (λ c. c.unit) r) (λ u. u.unit) r)
 
 -- row 11 is asked of a Post
 abbrev pub post_undistributed : Facts → Decoded → Bool

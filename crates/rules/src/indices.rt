@@ -51,6 +51,7 @@ pub fn unit_named(r: Record) -> usize
         Record::Unit(u) => index::<UNITS>(u.unit),
         Record::Commitment(c) => index::<UNITS>(c.unit),
         Record::Hour(h) => index::<UNITS>(h.unit),
+        Record::Owner(o) => index::<UNITS>(o.unit),
         _ => 0,
     }
 }

@@ -1,7 +1,12 @@
-// A function with an empty body whose contract is a theorem: the gate asks for its proof by name.
-ghost use Rattle.rules.specs.Laws.{HourLaws};
+// Functions with empty bodies whose contracts are theorems: the gate asks for their proofs by name.
+ghost use Rattle.rules.specs.Laws.{HourLaws, OwnerLaws};
 
 // The order of hours.
 pub fn hours()
     ensures { HourLaws }
+{}
+
+// What an owner does and does not change (02, Item 2).
+pub fn owners()
+    ensures { OwnerLaws }
 {}

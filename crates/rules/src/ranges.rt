@@ -5,7 +5,7 @@ ghost use Rattle.std.specs.Prelude.{◌≡◌, drop, Ok};
 ghost use Rattle.numbers.specs.Range.{within};
 ghost use Rattle.capacity.specs.Shortfall.{installed_most};
 ghost use Rattle.records.specs.declared.format.Record.TheVariants as records;
-ghost use Rattle.records.specs.declared.format.Record.TheVariants.{Year, Area, Commitment, Hour, Load, Post};
+ghost use Rattle.records.specs.declared.format.Record.TheVariants.{Year, Area, Commitment, Hour, Load, Post, Owner};
 ghost use Rattle.records.specs.Format.{rate_at, unit_format, fields_fit};
 ghost use Rattle.records.specs.Kinds.{rating_numbers};
 ghost use Rattle.rules.specs.Refusal.{numbers_fit, derating_fits, in_range};
@@ -16,7 +16,9 @@ use calendar::delivery_year::delivery_days;
 use capacity::InstalledWatts;
 use capacity::rating::Rating;
 use numbers::range::within;
-use records::format::{AreaRecord, CommitmentRecord, HourRecord, LoadRecord, UnitRecord};
+use records::format::{
+    AreaRecord, CommitmentRecord, HourRecord, LoadRecord, OwnerRecord, UnitRecord,
+};
 
 // A number of 1 to MOST.
 fn is_one_of<const MOST: usize>(n: u32) -> bool
@@ -118,4 +120,10 @@ pub(crate) fn post_fits(area: u32) -> bool
     ensures { result ≡ numbers_fit (Ok (Post area)) }
 {
     is_one_of::<AREAS>(area)
+}
+
+pub(crate) fn owner_fits(o: OwnerRecord) -> bool
+    ensures { result ≡ numbers_fit (Ok (Owner o)) }
+{
+    is_one_of::<UNITS>(o.unit) && is_one_of::<PARTIES>(o.party)
 }

@@ -3,20 +3,20 @@
 
 ghost use Rattle.std.specs.Prelude.{◌≡◌, false, ◌&&◌, eqb, leb, cond, Ok, Err};
 ghost use Rattle.records.specs.declared.format.Record.TheVariants as records;
-ghost use Rattle.records.specs.declared.format.Record.TheVariants.{Year, Area, Commitment, Hour, Load, Post};
+ghost use Rattle.records.specs.declared.format.Record.TheVariants.{Year, Area, Commitment, Hour, Load, Post, Owner};
 ghost use Rattle.rules.specs.Hours.{derated};
-ghost use Rattle.rules.specs.declared.refusal.Refusal.TheVariants.{NoYear, OutOfRange};
+ghost use Rattle.rules.specs.declared.refusal.Refusal.TheVariants.{NoYear, OutOfRange, NotEntered};
 ghost use Rattle.rules.specs.Refusal.{refusal_of, row_number, number_of, IsRow};
 ghost use Rattle.rules.specs.Rules.{asked_of};
 
 use crate::hour::{hour_index, is_derated};
 use crate::ranges::{
-    area_fits, commitment_fits, hour_fits, load_fits, post_fits, unit_fits, year_fits,
+    area_fits, commitment_fits, hour_fits, load_fits, owner_fits, post_fits, unit_fits, year_fits,
 };
 use capacity::InstalledWatts;
 use money::area::Undistributed;
 use records::format::{
-    AreaRecord, CommitmentRecord, Fault, HourRecord, LoadRecord, Record, UnitRecord,
+    AreaRecord, CommitmentRecord, Fault, HourRecord, LoadRecord, OwnerRecord, Record, UnitRecord,
 };
 
 // Why a record is refused: the rows, in the order of their numbers from 1.
@@ -131,6 +131,17 @@ impl Asked {
         Ok(())
     }
 
+    // Rows 4, 6 and 7 of a record that is of a unit.
+    fn admit_of_unit(self, fits: bool) -> Result<(), Refusal>
+        ensures { result ≡ cond (eqb self.year 0) (Err NoYear) (cond fits (cond self.unit (Ok tt) (Err NotEntered)) (Err OutOfRange)) }
+    {
+        self.admit_fit(fits)?;
+        if !self.unit {
+            return Err(Refusal::NotEntered);
+        }
+        Ok(())
+    }
+
     fn admit_area(self, r: AreaRecord) -> Result<(), Refusal>
         ensures { number_of result ≡ refusal_of self (Ok (Area r)) }
     {
@@ -154,21 +165,14 @@ impl Asked {
     fn admit_commitment(self, r: CommitmentRecord) -> Result<(), Refusal>
         ensures { number_of result ≡ refusal_of self (Ok (Commitment r)) }
     {
-        self.admit_fit(commitment_fits(self.year, r))?;
-        if !self.unit {
-            return Err(Refusal::NotEntered);
-        }
-        Ok(())
+        self.admit_of_unit(commitment_fits(self.year, r))
     }
 
     // The rows of an Hour alone.
     pub fn admit_hour(self, r: HourRecord) -> Result<(), Refusal>
         ensures { number_of result ≡ refusal_of self (Ok (Hour r)) }
     {
-        self.admit_fit(hour_fits(self.year, r))?;
-        if !self.unit {
-            return Err(Refusal::NotEntered);
-        }
+        self.admit_of_unit(hour_fits(self.year, r))?;
         if derated_out(self.installed, r) {
             return Err(Refusal::DeratedOut);
         }
@@ -201,6 +205,12 @@ impl Asked {
         Ok(())
     }
 
+    fn admit_owner(self, r: OwnerRecord) -> Result<(), Refusal>
+        ensures { number_of result ≡ refusal_of self (Ok (Owner r)) }
+    {
+        self.admit_of_unit(owner_fits(r))
+    }
+
     // The first row that fits a record that the frame takes: one of 4 to 11, if any does.
     pub fn admit(self, r: Record) -> Result<(), Refusal>
         ensures { number_of result ≡ refusal_of self (Ok r) }
@@ -213,6 +223,7 @@ impl Asked {
             Record::Hour(x) => self.admit_hour(x),
             Record::Load(x) => self.admit_load(x),
             Record::Post(x) => self.admit_post(x),
+            Record::Owner(x) => self.admit_owner(x),
         }
     }
 }

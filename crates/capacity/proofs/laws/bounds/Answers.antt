@@ -12,4 +12,6 @@ returns c =
       shortfalls_bound = bounds.shortfalls_bound;
       excesses_bound = bounds.excesses_bound;
       net_steps = bounds.net_steps;
+      ready_excesses_bound = bounds.ready_excesses_bound;
+      excess_steps = bounds.excess_steps;
     }

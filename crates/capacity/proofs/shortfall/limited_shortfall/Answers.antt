@@ -1,11 +1,17 @@
-use Rattle.std.proofs.Common.{◌∙◌}
-use Rattle.numbers.proofs.Tests.{flag}
+use Rattle.std.proofs.Common.{◌∙◌, le_trans, leb-true}
+use Rattle.numbers.proofs.Tests.{flag, both_true}
 use Rattle.capacity.specs.Shortfall.{shortfall_answer, limited_shortfall}
+use Rattle.capacity.proofs.Capacities.{unit_range}
 use Rattle.capacity.proofs.Formulas.{lower_of}
 use Rattle.capacity.proofs.shortfall.limited_shortfall.Goals as goal
 
-pub returns-then-in_range : goal.returns-then-in_range
+pub invariant_of-unit : goal.invariant_of-unit
+invariant_of-unit c =
+    let held = both_true (flag c.in_range_at.ensures c.if-in_range_at.true) in
+    record { in_range = held.0; at_most = le_trans (leb-true _ _ held.1) (unit_range held.0).rating.installed_to }
+
+pub returns-then-in_range_at : goal.returns-then-in_range_at
 unfolding shortfall_answer limited_shortfall
-returns-then-in_range c =
-    simp (flag c.in_range.ensures c.if-in_range.true)
-    (c.min.ensures ∙ simp (c.shortfall.ensures, c.limit.ensures, c.new-unit.ensures.rating, c.new-unit.ensures.hours, c.new-unit.ensures.commitment) (lower_of _ _))
+returns-then-in_range_at c =
+    simp (flag c.in_range_at.ensures c.if-in_range_at.true)
+    (c.min.ensures ∙ simp (c.shortfall.ensures, c.limit.ensures) (lower_of _ _))

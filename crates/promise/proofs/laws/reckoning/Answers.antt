@@ -1,4 +1,4 @@
-use Rattle.promise.proofs.OneMore.{hour_counts_once, commitment_replaces, load_replaces, list_kept, refused_lines, post_accepted, post_adds}
+use Rattle.promise.proofs.OneMore.{hour_counts_once, commitment_replaces, load_replaces, owner_replaces, list_kept, refused_lines, post_accepted, post_adds}
 use Rattle.promise.proofs.laws.reckoning.Goals as goal
 
 pub returns : goal.returns
@@ -7,6 +7,7 @@ returns c =
       hour_counts_once = hour_counts_once;
       commitment_replaces = commitment_replaces;
       load_replaces = load_replaces;
+      owner_replaces = owner_replaces;
       list_kept = list_kept;
       refused_lines = refused_lines;
       post_accepted = post_accepted;
