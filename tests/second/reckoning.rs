@@ -33,7 +33,7 @@ type Refusal = u8;
 type PerParty = [i128; PARTIES];
 
 // ---------------------------------------------------------------------------------------------
-// 01, Records: the seven records as they are written
+// 01, Records, and 02, Item 2: the eight records as they are written
 // ---------------------------------------------------------------------------------------------
 
 enum Record {
@@ -77,7 +77,14 @@ enum Record {
     Post {
         area: u8,
     },
+    Owner {
+        unit: u8,
+        party: u8,
+    },
 }
+
+/// 02, Item 2: the tag of an Owner.
+const OWNER: u8 = 0x08;
 
 /// The two-byte number at a place of the value, high byte first.
 #[inline(always)]
@@ -131,7 +138,11 @@ fn read(tag: u8, value: &[u8]) -> Result<Record, Refusal> {
             obligation: four(value, 2),
         }),
         (0x07, 1) => Ok(Record::Post { area: value[0] }),
-        (0x01..=0x07, _) => Err(3),
+        (OWNER, 2) => Ok(Record::Owner {
+            unit: value[0],
+            party: value[1],
+        }),
+        (0x01..=OWNER, _) => Err(3),
         _ => Err(2),
     }
 }
@@ -181,13 +192,15 @@ struct Commitment {
     watts: u32,
 }
 
-/// The standing facts.
+/// The standing facts, which owners join (02, Item 2).
 struct Records {
     year: Option<Year>,
     prices: [Option<u32>; AREAS],
     units: [Option<Unit>; UNITS],
     commitments: [Option<Commitment>; COMMITMENTS],
     obligations: [[Option<u32>; PARTIES]; AREAS],
+    /// The party that owns a unit.
+    owners: [Option<usize>; UNITS],
 }
 
 // ---------------------------------------------------------------------------------------------
@@ -367,6 +380,7 @@ impl Records {
             units: [const { None }; UNITS],
             commitments: [None; COMMITMENTS],
             obligations: [[None; PARTIES]; AREAS],
+            owners: [None; UNITS],
         }
     }
 
@@ -460,6 +474,16 @@ impl Records {
             Branch::LoadReplaced,
         );
         self.obligations[area][party] = Some(obligation);
+        Ok(())
+    }
+
+    /// 02, Item 2: a later one replaces; bad ranges give 6 and a missing unit 7.
+    fn enter_owner(&mut self, unit: u8, party: u8, tally: &mut Tally) -> Result<(), Refusal> {
+        let place = key(unit, UNITS)?;
+        let party = key(party, PARTIES)?;
+        let area = self.units[place].as_ref().ok_or(7)?.area;
+        tally.owner(place, area, self.owners[place], party);
+        self.owners[place] = Some(party);
         Ok(())
     }
 }
@@ -584,6 +608,7 @@ struct UnitFigures {
     hours: PeakHours,
     parts: PerParty,
     v: i128,
+    t: i128,
     t_by_installed: bool,
     /// P before rule (f); none if SH + FOH = 0.
     by_hours: Option<i128>,
@@ -594,16 +619,37 @@ struct UnitFigures {
     limit: i128,
     limited: i128,
     shares: PerParty,
+    owner: Option<usize>,
 }
 
-fn unit_figures(year: &Year, unit: &Unit, parts: PerParty) -> UnitFigures {
+impl UnitFigures {
+    /// 02, Item 2: the owner, if the set is ready but not committed.
+    fn ready_owner(&self) -> Option<usize> {
+        ready_owner(self.v, self.owner)
+    }
+
+    /// 02, Item 2: the size of S below zero; a shortfall counts for nothing here.
+    fn excess(&self) -> i128 {
+        (-self.s).max(0)
+    }
+}
+
+/// 02, Item 2: with V above 0 the owner plays no part.
+fn ready_owner(v: i128, owner: Option<usize>) -> Option<usize> {
+    owner.filter(|_| v == 0)
+}
+
+fn unit_figures(year: &Year, unit: &Unit, parts: PerParty, owner: Option<usize>) -> UnitFigures {
     let installed = i128::from(unit.installed);
     let (e, f) = (i128::from(unit.e), i128::from(unit.f));
     let hours = count_peak_hours(year, &unit.hours);
 
     let v: i128 = parts.iter().sum();
     let by_v = committed(v, e, i128::from(year.days));
-    let t = installed.min(by_v);
+    let t = match ready_owner(v, owner) {
+        Some(_) => installed,
+        None => installed.min(by_v),
+    };
     let x = after_outages(t, f);
     let g = after_outages(t, i128::from(unit.g));
     let by_hours = by_peak_hours(t, installed, &hours);
@@ -623,6 +669,7 @@ fn unit_figures(year: &Year, unit: &Unit, parts: PerParty) -> UnitFigures {
         hours,
         parts,
         v,
+        t,
         t_by_installed,
         by_hours,
         g,
@@ -631,6 +678,7 @@ fn unit_figures(year: &Year, unit: &Unit, parts: PerParty) -> UnitFigures {
         limit,
         limited,
         shares,
+        owner,
     }
 }
 
@@ -651,24 +699,41 @@ struct Money {
     left: i128,
 }
 
-/// 01, Area money: a party's net N, the sum of its shares in the area.
+/// 01, Area money: a party's net N, the sum of its shares in the area; then 02, Item 2.
 fn nets(records: &Records, year: &Year, area: usize, tally: &mut Tally) -> PerParty {
     let mut nets = [0; PARTIES];
+    let mut excesses = [0; PARTIES];
     let mut takes = Takes::default();
     for (number, unit) in records.units.iter().enumerate() {
         let Some(unit) = unit.as_ref().filter(|unit| unit.area == area) else {
             continue;
         };
-        let figures = unit_figures(year, unit, parts_of_v(&records.commitments, number));
+        let parts = parts_of_v(&records.commitments, number);
+        let figures = unit_figures(year, unit, parts, records.owners[number]);
         for (net, share) in nets.iter_mut().zip(figures.shares) {
             *net += share;
         }
+        if let Some(owner) = figures.ready_owner() {
+            excesses[owner] += figures.excess();
+        }
         takes.note(&figures);
         tally.unit(&figures);
+        tally.owned(number, &figures, &records.commitments);
         tally.hours(number, unit);
     }
-    tally.nets(&nets, &takes);
-    nets
+    let lowered = std::array::from_fn(|party| lowered(nets[party], excesses[party]));
+    tally.nets(&lowered, &takes);
+    tally.excesses(area, &nets, &excesses, &takes);
+    lowered
+}
+
+/// 02, Item 2: an excess lowers a net above zero, and never below zero; another net stays as it is.
+fn lowered(net: i128, excess: i128) -> i128 {
+    if net > 0 {
+        (net - excess).max(0)
+    } else {
+        net
+    }
 }
 
 /// 01, Area money: charge C of N > 0, and ceiling M of −N > 0; 0 of any other net.
@@ -854,7 +919,12 @@ impl Ledger {
         };
         match tried {
             Ok(()) => self.accepted += 1,
-            Err(number) => self.refuse(number, out),
+            Err(number) => {
+                if tag == OWNER {
+                    self.tally.owner_refused(number, value, &self.records.units);
+                }
+                self.refuse(number, out);
+            }
         }
     }
 
@@ -894,6 +964,7 @@ impl Ledger {
                 obligation,
             } => records.enter_load(area, party, obligation, tally),
             Record::Hour { .. } => unreachable!("taken by try_whole"),
+            Record::Owner { unit, party } => records.enter_owner(unit, party, tally),
             Record::Post { area } => self.post(area, out),
         }
     }
@@ -1013,6 +1084,38 @@ branches! {
     HourKeptForSunday "hour on a Monday kept for a Sunday",
     HourOfJune19 "hour on 19 June or its kept day from 2021",
     HourBeforeJune19 "peak hour on 19 June or its kept day before 2021",
+    // 02, Item 2.
+    ReadyExcess "ready set, excess",
+    ReadyShortfall "ready set, shortfall",
+    ReadyZero "ready set, S is 0",
+    ReadyExcessBeyondLimit "ready set, excess beyond the size of the limit",
+    ReadyHours "ready set with peak hours",
+    ReadyWithdrawn "ready set with commitments of 0 W",
+    OwnerOfCommitted "owner of a committed set",
+    OwnerOfCommittedTIsZero "owner of a committed set whose T is 0",
+    BecameReady "owned set committed at the post before, ready now",
+    BecameCommitted "owned set ready at the post before, committed now",
+    ExcessesAdded "ready excesses of several sets of one owner added, net above 0",
+    ExcessBesideShortfall "ready excess of an owner with a ready shortfall, net above 0",
+    ExcessLowers "ready excess lowers a net that stays above 0",
+    ExcessIsNet "ready excess as large as the net",
+    ExcessAboveNet "ready excess larger than the net, which stops at 0",
+    ExcessAtZero "ready excess of an owner with a net of 0",
+    ExcessBelowZero "ready excess of an owner with a net below 0",
+    ExcessWithoutNet "ready excess of an owner without a part in the area",
+    ExcessElsewhere "net above 0 of an owner with a ready excess in another area",
+    OwnerReplaced "owner replaced by another",
+    OwnerTheSame "owner entered again",
+    TakenBack "line below 0 of an owner who was replaced after a post",
+    OwnerRefused3 "Owner refused with 3",
+    OwnerRefused4 "Owner refused with 4",
+    OwnerOfUnit0 "Owner of unit 0",
+    OwnerOfUnit33 "Owner of unit 33",
+    OwnerParty0 "Owner with party 0",
+    OwnerParty17 "Owner with party 17",
+    OwnerRefused6Before7 "Owner refused with 6, its unit not entered",
+    OwnerRefused7 "Owner refused with 7",
+    OwnerAfterUnit "Owner entered after its unit, refused with 7 before it",
 }
 
 struct Tally {
@@ -1023,14 +1126,26 @@ struct Tally {
     watched: Vec<(u16, Branch)>,
     /// How many of them have been looked at, of each unit.
     looked_at: [usize; UNITS],
+    /// Of each unit with an owner at the post before, whether it was ready.
+    was_ready: [Option<bool>; UNITS],
+    /// Ready excesses by owner at the post before, of each area.
+    excesses: [PerParty; AREAS],
+    /// Owners whose net was lowered at the post before, of each area, and those of them replaced since.
+    saved: [[bool; PARTIES]; AREAS],
+    replaced: [[bool; PARTIES]; AREAS],
+    /// Units of which an Owner was refused with 7.
+    owner_too_early: [bool; UNITS],
 }
 
-/// Which parties have a part of V, a share above 0 and a share below 0 in the area.
+/// Which parties have a part of V, a share above 0 and a share below 0 in the area; and how many ready
+/// sets with an excess each owns, and whether one that falls short.
 #[derive(Default)]
 struct Takes {
     part: [bool; PARTIES],
     above: [bool; PARTIES],
     below: [bool; PARTIES],
+    ready_over: [usize; PARTIES],
+    ready_short: [bool; PARTIES],
 }
 
 impl Takes {
@@ -1039,6 +1154,10 @@ impl Takes {
             self.part[party] |= figures.parts[party] > 0;
             self.above[party] |= figures.shares[party] > 0;
             self.below[party] |= figures.shares[party] < 0;
+        }
+        if let Some(owner) = figures.ready_owner() {
+            self.ready_over[owner] += usize::from(figures.s < 0);
+            self.ready_short[owner] |= figures.s > 0;
         }
     }
 }
@@ -1050,6 +1169,11 @@ impl Tally {
             posts: [0; AREAS],
             watched: Vec::new(),
             looked_at: [0; UNITS],
+            was_ready: [None; UNITS],
+            excesses: [[0; PARTIES]; AREAS],
+            saved: [[false; PARTIES]; AREAS],
+            replaced: [[false; PARTIES]; AREAS],
+            owner_too_early: [false; UNITS],
         }
     }
 
@@ -1107,11 +1231,6 @@ impl Tally {
     /// For each unit of the posted area.
     fn unit(&mut self, figures: &UnitFigures) {
         let PeakHours { sh, foh, d } = figures.hours;
-        self.add(if figures.t_by_installed {
-            Branch::TByI
-        } else {
-            Branch::TByV
-        });
         self.add(match figures.by_hours {
             None => Branch::NoPeakHours,
             Some(_) if sh >= 50 => Branch::EnoughHours,
@@ -1124,7 +1243,19 @@ impl Tally {
         self.add_if(d > 0, Branch::DeratedHours);
         let g_above = figures.by_hours.is_some_and(|p| p < figures.g);
         self.add_if(sh >= 50 && g_above, Branch::GDiscarded);
+        self.add_if(figures.v == 0, Branch::VIsZero);
+        if figures.ready_owner().is_none() {
+            self.not_ready(figures);
+        }
+    }
 
+    /// For each unit of the posted area that is not ready.
+    fn not_ready(&mut self, figures: &UnitFigures) {
+        self.add(if figures.t_by_installed {
+            Branch::TByI
+        } else {
+            Branch::TByV
+        });
         let (s, limit) = (figures.s, figures.limit);
         self.add(match s {
             0 => Branch::SIsZero,
@@ -1141,7 +1272,6 @@ impl Tally {
         self.add_if(s > 0 && s > limit, limits[usize::from(figures.class)]);
         self.add_if(-s > limit, Branch::ExcessBeyondLimit);
 
-        self.add_if(figures.v == 0, Branch::VIsZero);
         let parties = figures.parts.iter().filter(|&&part| part > 0).count();
         self.add_if(
             figures.limited != 0 && parties > 1,
@@ -1150,6 +1280,104 @@ impl Tally {
         let none = |(&part, &share): (&i128, &i128)| part > 0 && share == 0;
         let some_none = figures.parts.iter().zip(&figures.shares).any(none);
         self.add_if(figures.limited != 0 && some_none, Branch::ShareOfNothing);
+    }
+
+    /// For an accepted Owner.
+    fn owner(&mut self, unit: usize, area: usize, before: Option<usize>, party: usize) {
+        if let Some(before) = before {
+            self.add(if before == party {
+                Branch::OwnerTheSame
+            } else {
+                Branch::OwnerReplaced
+            });
+            self.replaced[area][before] |= before != party && self.saved[area][before];
+        }
+        let too_early = std::mem::take(&mut self.owner_too_early[unit]);
+        self.add_if(too_early, Branch::OwnerAfterUnit);
+    }
+
+    #[cold]
+    fn owner_refused(&mut self, number: Refusal, value: &[u8], units: &[Option<Unit>; UNITS]) {
+        self.add_if(number == 3, Branch::OwnerRefused3);
+        self.add_if(number == 4, Branch::OwnerRefused4);
+        let &[unit, party] = value else {
+            return;
+        };
+        let place = key(unit, UNITS).ok();
+        if number == 6 {
+            self.add_if(unit == 0, Branch::OwnerOfUnit0);
+            self.add_if(unit == 33, Branch::OwnerOfUnit33);
+            self.add_if(party == 0, Branch::OwnerParty0);
+            self.add_if(party == 17, Branch::OwnerParty17);
+            let missing = place.is_some_and(|place| units[place].is_none());
+            self.add_if(missing, Branch::OwnerRefused6Before7);
+        }
+        if let (7, Some(place)) = (number, place) {
+            self.add(Branch::OwnerRefused7);
+            self.owner_too_early[place] = true;
+        }
+    }
+
+    /// For each unit of the posted area, with all commitments of the book.
+    fn owned(&mut self, number: usize, figures: &UnitFigures, all: &[Option<Commitment>]) {
+        let is_ready = figures.ready_owner().is_some();
+        let now = figures.owner.map(|_| is_ready);
+        let before = std::mem::replace(&mut self.was_ready[number], now);
+        self.add_if(
+            (before, now) == (Some(false), Some(true)),
+            Branch::BecameReady,
+        );
+        self.add_if(
+            (before, now) == (Some(true), Some(false)),
+            Branch::BecameCommitted,
+        );
+        if is_ready {
+            self.ready(figures);
+            let mut commitments = all.iter().flatten();
+            let withdrawn = commitments.any(|c| c.unit == number);
+            self.add_if(withdrawn, Branch::ReadyWithdrawn);
+        } else if now.is_some() {
+            self.add(Branch::OwnerOfCommitted);
+            self.add_if(figures.t == 0, Branch::OwnerOfCommittedTIsZero);
+        }
+    }
+
+    fn ready(&mut self, figures: &UnitFigures) {
+        self.add(match figures.s.signum() {
+            -1 => Branch::ReadyExcess,
+            1 => Branch::ReadyShortfall,
+            _ => Branch::ReadyZero,
+        });
+        self.add_if(-figures.s > figures.limit, Branch::ReadyExcessBeyondLimit);
+        self.add_if(figures.by_hours.is_some(), Branch::ReadyHours);
+    }
+
+    /// For each party, with its net before 02, Item 2.
+    fn excesses(&mut self, area: usize, nets: &PerParty, excesses: &PerParty, takes: &Takes) {
+        for (party, (&net, &excess)) in nets.iter().zip(excesses).enumerate() {
+            self.saved[area][party] = net > 0 && excess > 0;
+            if net > 0 {
+                let others = (0..AREAS).filter(|&other| other != area);
+                let elsewhere = others.map(|other| self.excesses[other][party]).max();
+                self.add_if(elsewhere > Some(0), Branch::ExcessElsewhere);
+            }
+            if excess == 0 {
+                continue;
+            }
+            let several = takes.ready_over[party] > 1;
+            self.add_if(net > 0 && several, Branch::ExcessesAdded);
+            let short_too = takes.ready_short[party];
+            self.add_if(net > 0 && short_too, Branch::ExcessBesideShortfall);
+            self.add(match net {
+                ..=-1 => Branch::ExcessBelowZero,
+                0 if takes.part[party] => Branch::ExcessAtZero,
+                0 => Branch::ExcessWithoutNet,
+                _ if excess < net => Branch::ExcessLowers,
+                _ if excess == net => Branch::ExcessIsNet,
+                _ => Branch::ExcessAboveNet,
+            });
+        }
+        self.excesses[area] = *excesses;
     }
 
     /// For each party, and once for the post.
@@ -1197,6 +1425,10 @@ impl Tally {
                 -1 => Branch::LineNegative,
                 _ => Branch::LineZero,
             });
+        }
+        let replaced = std::mem::take(&mut self.replaced[area]);
+        for (line, replaced) in lines.iter().zip(replaced) {
+            self.add_if(replaced && *line < 0, Branch::TakenBack);
         }
         let again = self.posts[area] > 0;
         self.add_if(again, Branch::PostAgain);
