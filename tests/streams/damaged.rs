@@ -1,12 +1,18 @@
-//! Damaged streams: the worked example spoiled at every byte, wrong tags and lengths, and garbage.
+//! Damaged streams: the worked example, with an owner, spoiled at every byte, wrong tags and lengths, and garbage.
 
 use crate::fixed::standing_book;
 use crate::random::Random;
-use crate::records::{frame, past_listed, right_lengths, stream, Record, LONGEST, WORKED_EXAMPLE};
+use crate::records::{frame, past_listed, right_lengths, stream, Record, Record::*, LONGEST, WORKED_EXAMPLE};
 use crate::sketch::{random_book, Shape};
 
+/// The worked example with a ready set whose excess lowers what its owner is charged, before the posts.
+fn example() -> Vec<Record> {
+    let ready = [Unit { unit: 3, area: 1, icap: 200_000, e: 0, f: 9_000, g: 0, class: 0 }, Owner { unit: 3, party: 5 }];
+    [&WORKED_EXAMPLE[..8], &ready, &WORKED_EXAMPLE[8..]].concat()
+}
+
 pub fn bit_flips() -> Vec<Vec<u8>> {
-    each_bit_flipped(&stream(&WORKED_EXAMPLE))
+    each_bit_flipped(&stream(&example()))
 }
 
 /// A book that has hours too.
@@ -32,7 +38,7 @@ pub fn cuts() -> Vec<Vec<u8>> {
         let removed = [&example[..at], &example[at + 1..]].concat();
         vec![example[..at].to_vec(), removed, example[at..].to_vec()]
     });
-    streams.push(stream(&WORKED_EXAMPLE));
+    streams.push(stream(&example()));
     streams
 }
 
@@ -45,7 +51,7 @@ pub fn insertions() -> Vec<Vec<u8>> {
 }
 
 fn at_each_byte(mut spoil: impl FnMut(&[u8], usize) -> Vec<Vec<u8>>) -> Vec<Vec<u8>> {
-    let example = stream(&WORKED_EXAMPLE);
+    let example = stream(&example());
     (0..example.len()).flat_map(|at| spoil(&example, at)).collect()
 }
 
@@ -57,9 +63,9 @@ fn with_byte(bytes: &[u8], at: usize, byte: u8) -> Vec<u8> {
 
 /// Each record of the worked example left out, doubled, put first and put last.
 pub fn moved_records() -> Vec<Vec<u8>> {
-    let mut streams = Vec::new();
-    for at in 0..WORKED_EXAMPLE.len() {
-        let mut others = WORKED_EXAMPLE.to_vec();
+    let (mut streams, example) = (Vec::new(), example());
+    for at in 0..example.len() {
+        let mut others = example.clone();
         let record = others.remove(at);
         streams.push(stream(&others));
         for place in 0..=others.len() {
@@ -81,7 +87,7 @@ pub fn tags() -> Vec<Vec<u8>> {
         frame(&mut out, tag, value.len() as u16, &value);
         out
     };
-    let places = [0, 1, 3, 5, 7, 8];
+    let places = [0, 1, 3, 5, 7, 9, 10];
     places.into_iter().flat_map(|at| (0..=255).map(move |tag| replaced(at, |record| framed(record, tag)))).collect()
 }
 
@@ -89,7 +95,7 @@ pub fn tags() -> Vec<Vec<u8>> {
 pub fn lengths() -> Vec<Vec<u8>> {
     let large = [63, 64, 127, 128, 255, 256, 257, 258, 261, 275, 288, 289, 512, 4_096, 32_767, 32_768, 65_535];
     let mut streams = Vec::new();
-    for at in 0..WORKED_EXAMPLE.len() {
+    for at in 0..example().len() {
         for length in (0..=40).chain(large) {
             let framed = |record: &Record, value: &[u8]| {
                 let mut out = Vec::new();
@@ -109,9 +115,9 @@ pub fn lengths() -> Vec<Vec<u8>> {
 
 /// The worked example with one record written otherwise.
 fn replaced(at: usize, write: impl Fn(&Record) -> Vec<u8>) -> Vec<u8> {
-    let before = stream(&WORKED_EXAMPLE[..at]);
-    let after = stream(&WORKED_EXAMPLE[at + 1..]);
-    [before, write(&WORKED_EXAMPLE[at]), after].concat()
+    let example = example();
+    let (before, after) = (stream(&example[..at]), stream(&example[at + 1..]));
+    [before, write(&example[at]), after].concat()
 }
 
 fn small_book(random: Random) -> Vec<u8> {
@@ -140,7 +146,7 @@ pub fn garbage(index: usize) -> Vec<u8> {
     let mut random = Random::for_stream("garbage", index);
     let mut bytes = match index % 3 {
         0 => Vec::new(),
-        1 => stream(&WORKED_EXAMPLE),
+        1 => stream(&example()),
         _ => small_book(Random::for_stream("before garbage", index)),
     };
     let count = random.pick(&[1, 2, 3, 4, 20, 200, 2_000]);
@@ -152,7 +158,7 @@ pub fn garbage(index: usize) -> Vec<u8> {
 /// Whole frames of random tags, lengths and values: no frame is broken, few are good.
 pub fn frames(index: usize) -> Vec<u8> {
     let mut random = Random::for_stream("frames", index);
-    let mut bytes = if index % 2 == 0 { stream(&WORKED_EXAMPLE) } else { Vec::new() };
+    let mut bytes = if index % 2 == 0 { stream(&example()) } else { Vec::new() };
     for _ in 0..random.between(1, 200) {
         let tag = random.between(0, u32::from(past_listed()) + 1) as u8;
         let right = right_lengths(tag);

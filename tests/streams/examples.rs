@@ -1,8 +1,9 @@
-//! The examples of document 001, the figures of the paper and the dates of 02, Item 1, with lines that come from them
-//! alone.
+//! The examples of document 001, the figures of the paper, the dates of 02, Item 1, and the sets of 02, Item 2, with
+//! lines that come from them alone.
 
 use crate::calendar::peak_slots;
 use crate::fixed::{hour, whole_year};
+use crate::ready;
 use crate::records::{Record, Record::*, WORKED_EXAMPLE};
 
 pub struct Example {
@@ -34,14 +35,15 @@ pub fn all() -> Vec<Example> {
         figure_j_without_loads(),
     ];
     examples.extend(dates_of_item_1());
+    examples.extend(ready::examples());
     examples
 }
 
 /// Delivery year 2010 has 365 days, as the document's years have.
-const Y: u16 = 2010;
+pub const Y: u16 = 2010;
 
 /// Peak hours of 2010, the first `out` in full forced outage and `service` more in service.
-fn hours(unit: u8, out: usize, service: usize) -> Vec<Record> {
+pub fn hours(unit: u8, out: usize, service: usize) -> Vec<Record> {
     let slots = &peak_slots(Y)[..out + service];
     slots.iter().enumerate().map(|(at, &slot)| hour(Y, unit, slot, if at < out { 3 } else { 0 }, 0)).collect()
 }

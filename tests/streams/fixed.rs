@@ -28,6 +28,9 @@ pub fn standing_book(y: u16) -> Vec<Record> {
         whole_year(y, 2, 2, 6, 1_000_000),
         Commitment { number: 3, unit: 3, party: 5, first: 30, last: 60, watts: 2_000_000 },
         Commitment { number: 4, unit: 3, party: 16, first: 61, last: 300, watts: 1_900_000 },
+        // Ready: its excess lowers what party 16 is charged.
+        Unit { unit: 6, area: 2, icap: 200_003, e: 70_000, f: 20_000, g: 3_000, class: 0 },
+        Owner { unit: 6, party: 16 },
         Load { area: 1, party: 7, obligation: 600_000 },
         Load { area: 2, party: 1, obligation: 1 },
         Load { area: 2, party: 16, obligation: 2 },
@@ -87,6 +90,7 @@ fn good_records(y: u16) -> Vec<Record> {
         Commitment { number: 1, unit: 1, party: 5, first: 10, last: 20, watts: 1_000_000 },
         Load { area: 1, party: 8, obligation: 1_000_000 },
         Post { area: 1 },
+        Owner { unit: 6, party: 5 },
     ];
     for kind in 0..=5 {
         let slot = peaks[peaks.len() / 2 + usize::from(kind)];
@@ -148,6 +152,7 @@ fn refused_later(y: u16) -> Vec<Record> {
         Unit { unit: 1, area: 1, icap: 9, e: 8, f: 7, g: 6, class: 1 },
         Commitment { number: 9, unit: 5, party: 8, first: 7, last: 9, watts: 6 },
         Load { area: 3, party: 5, obligation: 4 },
+        Owner { unit: 5, party: 4 },
         hour(y, 5, later, 0, 0),
         hour(y, 5, later, 1, 1),
         hour(y, 1, later, 1, 4_500_000),
@@ -190,6 +195,13 @@ fn odd_values(y: u16) -> Vec<Record> {
         Load { area: 3, party: 1, obligation: 100_000_001 },
         Post { area: 3 },
         Post { area: 0 },
+        Owner { unit: 0, party: 5 },
+        Owner { unit: 33, party: 17 }, // 6 twice
+        Owner { unit: 6, party: 0 },   // withdraws nothing
+        Owner { unit: 6, party: 17 },
+        Owner { unit: 5, party: 5 },  // 7
+        Owner { unit: 5, party: 0 },  // 6 and 7
+        Owner { unit: 5, party: 17 }, // 6 and 7
         strange_date(0, 0),
         strange_date(1, 4_500_000), // 6 and 9
     ];

@@ -57,12 +57,15 @@ pub fn straddlers() -> [Record; FORMATS.len()] {
         hour(2010, 1, slots(2010) - 1, 0, 0),
         Load { area: 1, party: 12, obligation: 99_999 },
         Post { area: 1 },
+        Owner { unit: 4, party: 5 },
     ]
 }
 
 /// The record stands so that `before` of its bytes come before the boundary.
 pub fn straddle(boundary: usize, record: Record, before: usize) -> Vec<u8> {
     let mut bytes = stream(&WORKED_EXAMPLE[..8]);
+    // Ready once it has an owner, and then with an excess.
+    Unit { unit: 4, area: 1, icap: 98_765, e: 0, f: 4_321, g: 0, class: 0 }.write(&mut bytes);
     let start = boundary - before;
     let mut slot = 0;
     let most = HEAD + LONGEST;

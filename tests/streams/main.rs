@@ -12,10 +12,12 @@ mod long;
 mod minimums;
 mod mistakes;
 mod money;
+mod owners;
 mod pieces;
 mod process;
 mod random;
 mod ranges;
+mod ready;
 #[path = "../second/reckoning.rs"]
 mod reckoning;
 mod records;
@@ -76,6 +78,8 @@ fn test_all(ledger: &Path, report: &mut Report) {
     minimums::check(&counts, report);
     let (holidays, result) = holidays::tell();
     report.note(&holidays, result);
+    let (owners, result) = owners::tell();
+    report.note(&owners, result);
     test_pieces(ledger, report);
     // A common year and a leap one: 225 records of set-up and posts, and 32 records for each hour.
     test_year(ledger, 2010, "E 280545 280545\n", report);

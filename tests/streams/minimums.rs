@@ -6,7 +6,7 @@ use crate::report::Report;
 /// For a name that the table does not know.
 const USUAL: u64 = 500;
 
-const MINIMUMS: [(&str, u64); 59] = [
+const MINIMUMS: [(&str, u64); 90] = [
     ("refusal 1", 500),
     ("refusal 2", 10_000),
     ("refusal 3", 2_000),
@@ -66,6 +66,37 @@ const MINIMUMS: [(&str, u64); 59] = [
     ("hour on a Monday kept for a Sunday", 2_000),
     ("hour on 19 June or its kept day from 2021", 2_000),
     ("peak hour on 19 June or its kept day before 2021", 10_000),
+    ("ready set, excess", 10_000),
+    ("ready set, shortfall", 10_000),
+    ("ready set, S is 0", 2_000),
+    ("ready set, excess beyond the size of the limit", 10_000),
+    ("ready set with peak hours", 10_000),
+    ("ready set with commitments of 0 W", 2_000),
+    ("owner of a committed set", 10_000),
+    ("owner of a committed set whose T is 0", 2_000),
+    ("owned set committed at the post before, ready now", 2_000),
+    ("owned set ready at the post before, committed now", 2_000),
+    ("ready excesses of several sets of one owner added, net above 0", 2_000),
+    ("ready excess of an owner with a ready shortfall, net above 0", 2_000),
+    ("ready excess lowers a net that stays above 0", 10_000),
+    ("ready excess as large as the net", 500),
+    ("ready excess larger than the net, which stops at 0", 10_000),
+    ("ready excess of an owner with a net of 0", 2_000),
+    ("ready excess of an owner with a net below 0", 2_000),
+    ("ready excess of an owner without a part in the area", 10_000),
+    ("net above 0 of an owner with a ready excess in another area", 10_000),
+    ("owner replaced by another", 2_000),
+    ("owner entered again", 2_000),
+    ("line below 0 of an owner who was replaced after a post", 500),
+    ("Owner refused with 3", 2_000),
+    ("Owner refused with 4", 2_000),
+    ("Owner of unit 0", 500),
+    ("Owner of unit 33", 500),
+    ("Owner with party 0", 500),
+    ("Owner with party 17", 500),
+    ("Owner refused with 6, its unit not entered", 500),
+    ("Owner refused with 7", 2_000),
+    ("Owner entered after its unit, refused with 7 before it", 500),
 ];
 
 pub fn check(counts: &Counts, report: &mut Report) {

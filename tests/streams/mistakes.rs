@@ -64,6 +64,7 @@ impl Sketch {
                 Record::Hour { unit: strange, month, day, ending, kind, derating }
             }
             Record::Load { party, obligation, .. } => Record::Load { area, party, obligation },
+            Record::Owner { party, .. } => Record::Owner { unit: strange, party },
             _ => Record::Post { area },
         };
         record.write(&mut self.out);

@@ -1,4 +1,4 @@
-//! The records of the paper's table, written as bytes.
+//! The records of the paper's table and of 02, Item 2, written as bytes.
 
 use Record::*;
 
@@ -35,8 +35,8 @@ const UNIT: FieldFormat = field(1, 1, 32);
 const PARTY: FieldFormat = field(1, 1, 16);
 const RATE: FieldFormat = field(4, 0, 99_999);
 
-/// The paper's table. `tests/host/format` reads it from this file.
-pub const FORMATS: [Format; 7] = [
+/// The paper's table, with 02, Item 2. `tests/host/format` reads it from this file.
+pub const FORMATS: [Format; 8] = [
     Format { name: "Year", tag: 0x01, fields: &[field(2, 2007, 2099)] },
     Format { name: "Area", tag: 0x02, fields: &[AREA, field(4, 0, 50_000)] },
     Format { name: "Unit", tag: 0x03, fields: &[UNIT, AREA, field(4, 1, 5_000_000), RATE, RATE, RATE, field(1, 0, 2)] },
@@ -48,6 +48,7 @@ pub const FORMATS: [Format; 7] = [
     Format { name: "Hour", tag: 0x05, fields: &[UNIT, ruled(1), ruled(1), field(1, 1, 24), field(1, 0, 5), ruled(4)] },
     Format { name: "Load", tag: 0x06, fields: &[AREA, PARTY, field(4, 0, 100_000_000)] },
     Format { name: "Post", tag: 0x07, fields: &[AREA] },
+    Format { name: "Owner", tag: 0x08, fields: &[UNIT, PARTY] },
 ];
 
 impl Format {
@@ -91,6 +92,7 @@ pub enum Record {
     Hour { unit: u8, month: u8, day: u8, ending: u8, kind: u8, derating: u32 },
     Load { area: u8, party: u8, obligation: u32 },
     Post { area: u8 },
+    Owner { unit: u8, party: u8 },
 }
 
 impl Record {
@@ -110,6 +112,7 @@ impl Record {
             }
             Load { area, party, obligation } => ("Load", vec![area.into(), party.into(), obligation]),
             Post { area } => ("Post", vec![area.into()]),
+            Owner { unit, party } => ("Owner", vec![unit.into(), party.into()]),
         }
     }
 

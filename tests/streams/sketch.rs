@@ -152,6 +152,14 @@ impl Sketch {
         Record::Commitment { number, unit, party: self.random.pick(&self.parties), first, last, watts }
     }
 
+    fn owner(&mut self) -> Record {
+        let unit = match self.sets.len() {
+            0 => self.random.between(1, 32) as u8,
+            count => self.sets[self.random.below(count)].unit,
+        };
+        Record::Owner { unit, party: self.random.pick(&self.parties) }
+    }
+
     /// There is at least one set.
     fn any_commitment(&mut self) -> Record {
         let (number, at) = (self.random.pick(&self.numbers), self.random.below(self.sets.len()));
@@ -188,14 +196,15 @@ impl Sketch {
     pub fn any(&mut self) -> Record {
         let area = self.random.pick(&self.areas);
         let at = self.random.below(self.sets.len().max(1));
-        match self.random.below(16) {
+        match self.random.below(17) {
             0 => Record::Year { y: self.y },
             1..=2 => self.area(area),
             3..=5 => self.unit(1),
             6 => self.load(area),
             7 => Record::Post { area },
-            8..=10 if !self.sets.is_empty() => self.any_commitment(),
-            11..=15 if !self.sets.is_empty() => {
+            8 => self.owner(),
+            9..=11 if !self.sets.is_empty() => self.any_commitment(),
+            12..=16 if !self.sets.is_empty() => {
                 let slot = self.sets[at].next.min(slots(self.y) - 1);
                 self.hour_at(at, slot)
             }
@@ -217,8 +226,15 @@ impl Sketch {
         for unit in some_of(&mut self.random, 32, shape.sets) {
             self.enter_unit(unit);
         }
+        // The last sets are not committed in some books.
+        let idle = if self.random.percent(40) { self.sets.len() / 3 } else { 0 };
+        let committed = self.sets.len() - idle;
         for (count, number) in self.numbers.clone().into_iter().enumerate() {
-            let record = self.commitment(number, count % self.sets.len());
+            let record = self.commitment(number, count % committed);
+            self.put(record);
+        }
+        for _ in 0..self.random.below(self.sets.len() + 1) {
+            let record = self.owner();
             self.put(record);
         }
         let bare = self.random.percent(20);
@@ -306,9 +322,10 @@ impl Sketch {
 
     fn change(&mut self) {
         let area = self.random.pick(&self.areas);
-        let record = match self.random.below(5) {
+        let record = match self.random.below(6) {
             0..=2 if !self.sets.is_empty() => self.any_commitment(),
-            3 => self.area(area),
+            3 if !self.sets.is_empty() => self.owner(),
+            4 => self.area(area),
             _ => self.load(area),
         };
         self.put(record);

@@ -5,7 +5,7 @@ use crate::process::Delivery;
 use crate::random::Random;
 use crate::report::keep;
 use crate::sketch::{random_book, Shape};
-use crate::{damaged, fixed, holidays, long, money};
+use crate::{damaged, fixed, holidays, long, money, owners};
 use std::path::Path;
 use std::sync::atomic::{AtomicBool, AtomicUsize, Ordering};
 use std::thread;
@@ -57,6 +57,7 @@ pub fn all() -> Vec<Family> {
         Family::made("shortfalls about their limit", 1_200, money::limits),
         Family::made("money short, even and left over", 2_400, money::balances),
         Family::made("figures as large as can be", 160, money::extremes),
+        Family::made("ready sets and their owners", owners::BOOKS, owners::books),
         Family::listed("ends of ranges", fixed::ends()),
         Family::listed("rows of refusal", fixed::rows()),
         Family::made("dates of every year", years, fixed::dates),
