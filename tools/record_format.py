@@ -62,6 +62,9 @@ KINDS = (
          Field("obligation", 4, 0, 100_000_000)),
     Kind("Post", 0x07,
          Field("area", 1, 1, 8)),
+    Kind("Owner", 0x08,
+         Field("unit", 1, 1, 32),
+         Field("party", 1, 1, 16)),
 )
 KIND_OF_WORD = {kind.word: kind for kind in KINDS}
 KIND_OF_TAG = {kind.tag: kind for kind in KINDS}

@@ -95,6 +95,11 @@ def wrong_in_commitment(first, last):
         yield f"last day {last} is not a day of the delivery year"
 
 
+def wrong_in_owner(party):
+    if party == 0:
+        yield "an owner cannot be withdrawn, only replaced"
+
+
 def left_to_the_year(month=None, day=None, last=None):
     """Days that only some years have: the reason if nothing else in the record is wrong."""
     if (month, day) == (2, 29):
@@ -116,13 +121,15 @@ def why_value(record):
     if name == "Commitment":
         wrong += wrong_in_commitment(numbers["first day"], numbers["last day"])
         wrong = wrong or left_to_the_year(last=numbers["last day"])
+    if name == "Owner":
+        wrong += wrong_in_owner(numbers["party"])
     return "; ".join(wrong)
 
 
 def why_not_entered(record):
     if name_of(record) in ("Unit", "Load", "Post"):
         return f"area {numbers_of(record)['area']} is not entered"
-    if name_of(record) in ("Commitment", "Hour"):
+    if name_of(record) in ("Commitment", "Hour", "Owner"):
         return f"unit {numbers_of(record)['unit']} is not entered"
     return None
 
