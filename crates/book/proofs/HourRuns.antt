@@ -1,82 +1,180 @@
--- A run of hours goes on with each accepted one and stops at the first record that is anything else or is refused.
-use Rattle.std.proofs.Common.{◌≡◌, refl, sym, ap, ◌∙◌, Bool, true, false, cond, Some, None, Ok, List, ℕ, suc, ◌+◌, ◌/◌, ◌<◌, arith, eqb, length}
-use Rattle.std.proofs.Common.{◌++◌, drop, length-append}
-use mathlib.Core.Bool.{and-false}
-use Rattle.std.proofs.Math.Seq.{take-append_seam, drop-append_seam}
-use Rattle.std.proofs.lemmas.List.{drop-drop}
+-- A run of hours goes on with each accepted record and stops at the first that is anything else or is refused.
+use Rattle.std.proofs.Common.{◌≡◌, refl, sym, ap, ◌∙◌, Bool, true, false, cond, ◌&&◌, ◌||◌, Some, None, Ok, List, [], ◌∷◌, ℕ, zero, suc, ◌+◌, ◌-◌, ◌≤◌, arith, eqb, ne_eqb, length}
+use Rattle.std.proofs.Common.{take, drop, length-drop, take_all, add-one}
 use Rattle.numbers.specs.Range.{within}
 use Rattle.records.specs.declared.format.HourRecord.{HourRecord}
-use Rattle.records.specs.declared.format.Record.TheVariants.{Hour}
-use Rattle.records.specs.Decoded.{decoded, hour_of}
-use Rattle.records.specs.Format.{hour_format}
-use Rattle.records.specs.Kinds.{numbers_of, hour_from, is_of, of_hour}
+use Rattle.records.specs.declared.format.DayRecord.{DayRecord}
+use Rattle.records.specs.declared.format.Record.TheVariants.{Hour, Day}
+use Rattle.records.specs.declared.stream.Next.{Next}
+use Rattle.records.specs.declared.stream.Next.TheVariants.{Whole, Broken, Partial}
+use Rattle.records.specs.Decoded.{decoded}
+use Rattle.records.specs.Stream.{next_record, on_next, first_hour, first_day}
+use Rattle.records.specs.Format.{Format, bytes_of, hour_format, day_format}
+use Rattle.records.specs.Kinds.{is_of, hour_from, day_from}
 use Rattle.records.proofs.OneKind.{is_made}
+use Rattle.records.proofs.FormatLaws.{whole_not_broken, whole_least}
+use Rattle.records.proofs.FirstRecords.{FirstIs, first_is, none_is}
 use Rattle.rules.specs.Rules.{index, area_index}
 use Rattle.book.specs.Books.{Book}
 use Rattle.book.specs.Entered.{Answer, no_lines, answer, entered}
-use Rattle.book.specs.Runs.{hour_length, hour_bytes, is_accepted_hour, run, hours_of, first_hours}
+use Rattle.book.specs.Steps.{Moved}
+use Rattle.book.specs.Runs.{is_accepted_as, first_accepted, hour_kinds, next_hours, run, hours_of, first_hours}
 
--- an Hour names no area
+-- an Hour and a Day name no area
 pub no_area_lem : 0 ≡ area_index 0
 unfolding index within
 no_area_lem = refl
 
--- the Hour that a string is, if it is one
-pub hour_is : (s : List ℕ) {h : HourRecord} → Some h ≡ hour_of s → Ok (Hour h) ≡ decoded s
-hour_is s {h} e = go (is_of hour_format (decoded s)) refl
-  where
-    go : (t : Bool) → is_of hour_format (decoded s) ≡ t → Ok (Hour h) ≡ decoded s
-    go true q =
-        let some : Some h ≡ Some (hour_from (numbers_of (decoded s))) = rw q at e in
-        let is : h ≡ hour_from (numbers_of (decoded s)) = cc in
-        ap (λ (x : HourRecord). Ok (Hour x)) is ∙ sym (is_made hour_format (decoded s) tt q)
-    go false q = let some : Some h ≡ None = rw q at e in cc
+-- the next record, if it is of one format
+module _ (f : Format) (b : Book) (s : List ℕ) where
+  next_left : ((k : ℕ) → next_record s ≡ Whole k → is_accepted_as (f ∷ []) b (take k s) ≡ false) → 0 ≡ first_accepted (f ∷ []) b s
+  unfolding first_accepted
+  next_left not_one = go (next_record s) refl
+    where
+      go : (n : Next) → next_record s ≡ n → 0 ≡ on_next 0 0 (λ k. cond (is_accepted_as (f ∷ []) b (take k s)) k 0) n
+      go Partial q = refl
+      go Broken q = refl
+      go (Whole k) q = rw (not_one k q)
 
--- it is accepted, where its number is 0
-pub hour_taken : (b : Book) (s : List ℕ) {h : HourRecord} {b' : Book} → Ok (Hour h) ≡ decoded s → answer 0 no_lines b' ≡ entered b s → true ≡ is_accepted_hour b s
-hour_taken b s is e = rw (sym is, sym (ap (λ (x : Answer). x.number) e))
+  module _ {A : Type 0} {given : List ℕ → A} {x : A} (g : FirstIs f given s x) where
+    pub refused : eqb (entered b (take (bytes_of f) s)).number 0 ≡ false → 0 ≡ first_accepted (f ∷ []) b s
+    unfolding first_accepted
+    refused q = rw (g.next_is, g.is, q)
 
-pub hour_left : (b : Book) (s : List ℕ) → eqb (entered b s).number 0 ≡ false → false ≡ is_accepted_hour b s
-hour_left b s q = rw q (sym (and-false (of_hour false (λ h. true) (decoded s))))
+    pub taken : {b' : Book} → answer 0 no_lines b' ≡ entered b (take (bytes_of f) s) → bytes_of f ≡ first_accepted (f ∷ []) b s
+    unfolding first_accepted
+    taken e = rw (g.next_is, g.is, sym (ap (λ (a : Answer). a.number) e))
 
--- The loop of `hours`, where `rest` is not read yet: what is left to do there is what was to do at first.
-pub record HoursLeft (first : Book) (s : List ℕ) (b : Book) (end : ℕ) (rest : List ℕ) : Type 0 where
-  pub rest_is : rest ≡ drop end s
-  pub long : end + length rest ≡ length s
-  pub left : hours_of (length rest / hour_length) b s end ≡ first_hours first s
+module _ (b : Book) (s : List ℕ) where
+  pub no_hour : None ≡ first_hour s → 0 ≡ first_accepted (hour_format ∷ []) b s
+  unfolding first_hour
+  no_hour e = next_left hour_format b s (λ k q. rw (none_is hour_format tt (λ l. refl) hour_from s e k q))
 
-module _ {first b : Book} {s : List ℕ} {end : ℕ} {rest : List ℕ} (h : HoursLeft first s b end rest) where
-  module _ (x more : List ℕ) (cut : rest ≡ x ++ more) (long : length x ≡ hour_length) where
-    -- the record that is read, and what is left after it
-    pub read_is : hour_bytes s end ≡ x
-    read_is = rw (sym h.rest_is, cut, ← long) (take-append_seam x more)
+  pub no_day : None ≡ first_day s → 0 ≡ first_accepted (day_format ∷ []) b s
+  unfolding first_day
+  no_day e = next_left day_format b s (λ k q. rw (none_is day_format tt (λ l. refl) day_from s e k q))
 
-    rest_more : more ≡ drop (end + hour_length) s
-    rest_more = sym (drop-append_seam x more) ∙ rw (long, sym cut, h.rest_is) (drop-drop hour_length end s)
+module _ (s : List ℕ) where
+  pub an_hour : {h : HourRecord} → Some h ≡ first_hour s → FirstIs hour_format hour_from s h
+  unfolding first_hour
+  an_hour e = first_is hour_format tt (λ l. refl) hour_from s e
 
-    count_more : length rest / hour_length ≡ suc (length more / hour_length)
-    count_more = rw cut (simp length-append (omega (arith, long)))
+  pub hour_is : {h : HourRecord} → FirstIs hour_format hour_from s h → Ok (Hour h) ≡ decoded (take 12 s)
+  hour_is g = ap (λ (x : HourRecord). Ok (Hour x)) g.made_is ∙ sym (is_made hour_format (decoded (take 12 s)) tt g.is)
 
-    pub goes_on : {b' : Book} {taken : Bool} {next : ℕ} → next ≡ end + hour_length → taken ≡ is_accepted_hour b x → taken ≡ true
-        → b' ≡ cond taken (entered b x).book b → HoursLeft first s b' next more
-    unfolding hours_of
-    goes_on {b'} {taken} {next} to is here e =
-        let one : hours_of (length rest / hour_length) b s end ≡ hours_of (length more / hour_length) b' s next
-        = rw (to, e, count_more, read_is, sym is, here) in
-        record { rest_is = rw to rest_more; long = omega (arith, h.long, simp length-append at (ap length cut)); left = sym one ∙ h.left }
+  pub a_day : {d : DayRecord} → Some d ≡ first_day s → FirstIs day_format day_from s d
+  unfolding first_day
+  a_day e = first_is day_format tt (λ l. refl) day_from s e
 
-    -- it stops at a record
-    pub stops : {b' : Book} {taken : Bool} → taken ≡ is_accepted_hour b x → taken ≡ false → b' ≡ cond taken (entered b x).book b
-        → run end b' ≡ first_hours first s
-    unfolding hours_of
-    stops {b'} {taken} is other e =
-        let one : hours_of (length rest / hour_length) b s end ≡ run end b' = rw (e, count_more, read_is, sym is, other) in
-        sym one ∙ h.left
+  pub day_is : {d : DayRecord} → FirstIs day_format day_from s d → Ok (Day d) ≡ decoded (take 9 s)
+  day_is g = ap (λ (x : DayRecord). Ok (Day x)) g.made_is ∙ sym (is_made day_format (decoded (take 9 s)) tt g.is)
 
-  -- or where less than one is left
-  pub ends : length rest < hour_length → run end b ≡ first_hours first s
+-- a record that is taken is a whole one
+pub record TakenWhole (s : List ℕ) (k : ℕ) : Type 0 where
+  pub next_is : next_record s ≡ Whole k
+  pub there : k ≤ length s
+
+module _ (fs : List Format) (b : Book) (s : List ℕ) where
+  abbrev of_next : Next → ℕ
+  of_next = on_next 0 0 (λ k. cond (is_accepted_as fs b (take k s)) k 0)
+
+  pub taken_whole : (k : ℕ) → (k ≡ 0 → ⊥) → k ≡ first_accepted fs b s → TakenWhole s k
+  unfolding first_accepted
+  taken_whole k some e = go (next_record s) refl e
+    where
+      go : (n : Next) → next_record s ≡ n → k ≡ of_next n → TakenWhole s k
+      go Partial q e = absurd (some e)
+      go Broken q e = absurd (some e)
+      go (Whole j) q e = of (is_accepted_as fs b (take j s)) e
+        where
+          of : (t : Bool) → k ≡ cond t j 0 → TakenWhole s k
+          of true e = record { next_is = q ∙ ap Whole (sym e); there = omega (arith, e, (whole_not_broken s j q).0) }
+          of false e = absurd (some e)
+
+  pub taken_accepted : (k : ℕ) → (k ≡ 0 → ⊥) → k ≡ first_accepted fs b s → is_accepted_as fs b (take k s) ≡ true
+  unfolding first_accepted
+  taken_accepted k some e = go (next_record s) e
+    where
+      go : (n : Next) → k ≡ of_next n → is_accepted_as fs b (take k s) ≡ true
+      go Partial e = absurd (some e)
+      go Broken e = absurd (some e)
+      go (Whole j) e = of (is_accepted_as fs b (take j s)) refl e
+        where
+          of : (t : Bool) → is_accepted_as fs b (take j s) ≡ t → k ≡ cond t j 0 → is_accepted_as fs b (take k s) ≡ true
+          of true p e = rw e p
+          of false p e = absurd (some e)
+
+-- of one format, or of the other
+module _ (f g : Format) (b : Book) (s : List ℕ) where
+  either : first_accepted (f ∷ g ∷ []) b s ≡ cond (eqb (first_accepted (f ∷ []) b s) 0) (first_accepted (g ∷ []) b s) (first_accepted (f ∷ []) b s)
+  unfolding first_accepted
+  either = go (next_record s) refl
+    where
+      choice : (k : ℕ) → eqb k 0 ≡ false → (p q n : Bool)
+          → ◌≡◌ {A = ℕ} (cond ((p || (q || false)) && n) k 0) (cond (eqb (cond ((p || false) && n) k 0) 0) (cond ((q || false) && n) k 0) (cond ((p || false) && n) k 0))
+      choice k some true q true = rw some
+      choice k some true true false = refl
+      choice k some true false false = refl
+      choice k some false q n = refl
+
+      go : (n : Next) → next_record s ≡ n
+          → of_next (f ∷ g ∷ []) b s n ≡ cond (eqb (of_next (f ∷ []) b s n) 0) (of_next (g ∷ []) b s n) (of_next (f ∷ []) b s n)
+      go Partial q = refl
+      go Broken q = refl
+      go (Whole k) q =
+          choice k (ne_eqb k 0 (λ z. omega (arith, z, whole_least s k q))) (is_of f (decoded (take k s))) (is_of g (decoded (take k s))) (eqb (entered b (take k s)).number 0)
+
+-- an Hour, or else a Day
+module _ (b : Book) (s : List ℕ) {k : ℕ} (hour : k ≡ first_accepted (hour_format ∷ []) b s) where
+  pub of_hour : (k ≡ 0 → ⊥) → k ≡ first_accepted hour_kinds b s
+  of_hour some = rw (either hour_format day_format b s, ← hour, ne_eqb k 0 some)
+
+  pub or_day : k ≡ 0 → {j : ℕ} → j ≡ first_accepted (day_format ∷ []) b s → j ≡ first_accepted hour_kinds b s
+  or_day none day = rw (either hour_format day_format b s, ← hour, none, day)
+
+-- what follows a place, as the code has it
+pub rest_is : (s : List ℕ) (from : ℕ) → take (length s - from) (drop from s) ≡ drop from s
+rest_is s from = take_all (length s - from) (drop from s) (omega (arith, length-drop from s))
+
+-- The loop of `hours` at a place, where the bytes from there on are not read yet: what is left to do there is what was to do at first.
+pub record HoursLeft (first : Book) (s : List ℕ) (b : Book) (from count : ℕ) : Type 0 where
+  pub most : ℕ
+  pub inside : from ≤ length s
+  pub enough : length s ≤ from + most
+  pub few : count ≤ from
+  pub left : hours_of most b s from count ≡ first_hours first s
+
+pub begins : (b : Book) (s : List ℕ) → HoursLeft b s b 0 0
+begins b s = record { most = length s; inside = omega arith; enough = omega arith; few = omega arith; left = refl }
+
+module _ {first b : Book} {s : List ℕ} {from count : ℕ} (h : HoursLeft first s b from count) where
+  -- the record that was taken lies inside
+  pub lies_inside : {k : ℕ} → k ≡ next_hours b s from → (k ≡ 0 → ⊥) → from + k ≤ length s
+  lies_inside is some = omega (arith, (taken_whole hour_kinds b (drop from s) _ some is).there, length-drop from s, h.inside)
+
+  pub stops : {k : ℕ} → k ≡ next_hours b s from → k ≡ 0 → run from count b ≡ first_hours first s
   unfolding hours_of
-  ends less =
-      let none : length rest / hour_length ≡ 0 = omega arith in
-      let one : hours_of (length rest / hour_length) b s end ≡ run end b = rw none in
-      sym one ∙ h.left
+  stops {k} is none = go h.most h.left
+    where
+      go : (n : ℕ) → hours_of n b s from count ≡ first_hours first s → run from count b ≡ first_hours first s
+      go zero e = e
+      go (suc n) e = rw (sym is, none) at e
+
+  pub goes_on : {k : ℕ} {b' : Book} → k ≡ next_hours b s from → (k ≡ 0 → ⊥) → Moved b (drop from s) k b'
+      → HoursLeft first s b' (from + k) (count + 1)
+  unfolding hours_of
+  goes_on {k} {b'} is some moved = go h.most h.enough h.left
+    where
+      whole : TakenWhole (drop from s) k
+      whole = taken_whole hour_kinds b (drop from s) k some is
+
+      go : (n : ℕ) → length s ≤ from + n → hours_of n b s from count ≡ first_hours first s → HoursLeft first s b' (from + k) (count + 1)
+      go zero enough e = absurd (omega (arith, whole.there, length-drop from s, h.inside, some))
+      go (suc n) enough e =
+          record {
+            most = n;
+            inside = omega (arith, whole.there, length-drop from s, h.inside);
+            enough = omega (arith, some);
+            few = omega (arith, h.few, some);
+            left = rw (moved, add-one count, ne_eqb k 0 some) (rw (sym is, ne_eqb k 0 some) at e);
+          }

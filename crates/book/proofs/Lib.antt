@@ -1,7 +1,9 @@
 pub mod Ranges
 pub mod AreaNets
 pub mod AreaMoney
+pub mod DayHours
 pub mod Soundness
 pub mod Answers
 pub mod HourRuns
 pub mod HoursEntered
+pub mod Days

@@ -1,5 +1,5 @@
 -- Every book that strings lead to is sound: the empty book is, and an answer's book is if the book before it was.
-use Rattle.std.proofs.Common.{◌≡◌, refl, ◌∙◌, Bool, true, false, cond, ◌&&◌, List, [], ◌∷◌, inl, inr, ℕ, ◌+◌, ◌*◌, ◌≤◌, ◌<◌, add-mul}
+use Rattle.std.proofs.Common.{◌≡◌, refl, ◌∙◌, Bool, true, false, cond, ◌&&◌, List, [], ◌∷◌, inl, inr, ℕ, zero, suc, ◌+◌, ◌*◌, ◌≤◌, ◌<◌, add-mul}
 use Rattle.std.proofs.Common.{Ok, arith, pos, nat_abs, eqb, leb, get_or, set, length-set, ltb-true, leb-true, leb-false, eqb-true}
 use Rattle.numbers.specs.Lists.{list_below}
 use Rattle.numbers.proofs.Tests.{within_from, within_to, both_true}
@@ -13,25 +13,29 @@ use Rattle.records.specs.declared.format.UnitRecord.{UnitRecord}
 use Rattle.records.specs.declared.format.CommitmentRecord.{CommitmentRecord}
 use Rattle.records.specs.declared.format.HourRecord.{HourRecord}
 use Rattle.records.specs.declared.format.OwnerRecord.{OwnerRecord}
+use Rattle.records.specs.declared.format.DayRecord.{DayRecord}
+use Rattle.records.specs.declared.format.AreaRecord.{AreaRecord}
 use Rattle.records.specs.declared.format.Record.TheVariants as records
-use Rattle.records.specs.declared.format.Record.TheVariants.{Commitment, Hour, Owner}
+use Rattle.records.specs.declared.format.Record.TheVariants.{Commitment, Hour, Owner, Day}
 use Rattle.records.specs.Format.{area_count, unit_count, commitment_count, party_count, year_format, area_format, unit_format, commitment_format, hour_format}
-use Rattle.records.specs.Format.{load_format, post_format, owner_format}
+use Rattle.records.specs.Format.{load_format, post_format, owner_format, day_format}
 use Rattle.records.specs.Decoded.{decoded}
 use Rattle.records.specs.Kinds.{Decoded, is_of}
 use Rattle.rules.specs.Facts.{no_area, no_commitment}
 use Rattle.rules.specs.Hours.{derated, excused, forced_out, hour_index, service_hour, outage_hour, derated_watts, counted, is_peak}
+use Rattle.rules.specs.Days.{day_hour}
 use Rattle.rules.specs.Refusal.{days_fit, in_range, refusal_of}
 use Rattle.rules.specs.Dues.{due_in}
-use Rattle.rules.specs.Rules.{unit_index, asked, refusal}
+use Rattle.rules.specs.Rules.{area_index, unit_index, asked_of, asked, refusal}
 use Rattle.rules.proofs.ByKind.{chosen, as_made, fit}
 use Rattle.rules.proofs.Fields.{numbers_fit_lem, rule_holds}
 use Rattle.rules.proofs.AcceptedRows.{Accepted, accepted}
 use Rattle.book.specs.declared.UnitEntry.{UnitEntry}
 use Rattle.book.specs.Books.{Book, no_entry, facts_of_book, empty_book, no_obligations, no_sums, SoundUnit, SoundCommitment, Array, Sound}
 use Rattle.book.specs.Steps.{with_posted}
-use Rattle.book.specs.Entered.{new_unit, with_hour, with_owner, posted_after, after, entered, book_after}
+use Rattle.book.specs.Entered.{new_unit, with_hour, with_hours, with_day, with_owner, posted_after, after, entered, book_after}
 use Rattle.book.proofs.AreaNets.{days_in_range}
+use Rattle.book.proofs.DayHours.{kept_entry, hour_admitted}
 
 -- places without a unit or a commitment
 no_unit_sound : SoundUnit no_entry
@@ -159,6 +163,16 @@ with_hour_sound y u h s ok not_out later =
           );
     }
 
+-- with the first hours of an accepted Day more
+with_hours_sound : (y : ℕ) (area : AreaRecord) (u : UnitEntry) (d : DayRecord) → SoundUnit u
+    → Accepted (asked_of y area u.entry u.last false) (Ok (Day d)) → (n : ℕ) → n ≤ 24 → SoundUnit (with_hours y u d n)
+unfolding with_hours
+with_hours_sound y area u d s ok zero h = s
+with_hours_sound y area u d s ok (suc n) h =
+    let hour = accepted _ _ (hour_admitted y u d area ok n (omega arith)) in
+    with_hour_sound y (with_hours y u d n) (day_hour d (n + 1)) (with_hours_sound y area u d s ok n (omega arith)) hour.in_range_lem
+    (rw (kept_entry y u d n) hour.not_out) hour.later
+
 -- a unit with an owner
 with_owner_sound : (y : ℕ) (u : UnitEntry) (o : OwnerRecord) → SoundUnit u → in_range y (Ok (Owner o)) ≡ true → SoundUnit (with_owner u o)
 with_owner_sound y u o s ok =
@@ -192,6 +206,10 @@ module _ (b : Book) (r : Decoded) (s : Sound b) (dues : DuesFit b) (ok : Accepte
       → SoundUnit (with_hour b.year (get_or b.units (unit_index h.unit) no_entry) h)
   hour_sound h passed = with_hour_sound b.year _ h (s.units.each _) passed.in_range_lem passed.not_out passed.later
 
+  day_sound : (d : DayRecord) → Accepted (asked (facts_of_book b) (Ok (Day d))) (Ok (Day d))
+      → SoundUnit (with_day b.year (get_or b.units (unit_index d.unit) no_entry) d)
+  day_sound d passed = with_hours_sound b.year (get_or b.areas (area_index 0) no_area) _ d (s.units.each _) passed 24 (omega arith)
+
   accepted_sound : Sound (after b r)
   accepted_sound =
       record {
@@ -203,7 +221,8 @@ module _ (b : Book) (r : Decoded) (s : Sound b) (dues : DuesFit b) (ok : Accepte
             chosen (Array unit_count SoundUnit no_entry) (is_of unit_format r) (λ q. array_stored _ _ (new_unit_sound b.year _ (as_made (facts_of_book b) r ok unit_format tt q).in_range_lem) s.units)
             (chosen (Array unit_count SoundUnit no_entry) (is_of hour_format r) (λ q. array_stored _ _ (hour_sound _ (as_made (facts_of_book b) r ok hour_format tt q)) s.units)
             (chosen (Array unit_count SoundUnit no_entry) (is_of owner_format r)
-            (λ q. array_stored _ _ (with_owner_sound b.year _ _ (s.units.each _) (as_made (facts_of_book b) r ok owner_format tt q).in_range_lem) s.units) s.units));
+            (λ q. array_stored _ _ (with_owner_sound b.year _ _ (s.units.each _) (as_made (facts_of_book b) r ok owner_format tt q).in_range_lem) s.units)
+            (chosen (Array unit_count SoundUnit no_entry) (is_of day_format r) (λ q. array_stored _ _ (day_sound _ (as_made (facts_of_book b) r ok day_format tt q)) s.units) s.units)));
         commitments =
             chosen (Array commitment_count SoundCommitment no_commitment) (is_of commitment_format r)
             (λ q. array_stored _ _ (commitment_sound b.year _ (as_made (facts_of_book b) r ok commitment_format tt q).in_range_lem) s.commitments) s.commitments;

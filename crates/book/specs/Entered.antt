@@ -1,6 +1,7 @@
--- What a string is answered with, and the book after it. 01, Records, Places of refusal, Hours and Area money; 02, Item 2.
-use Rattle.std.specs.Prelude.{cond, List, [], ◌∷◌, ℕ, pos, eqb, get_or, set, Result, Ok, Err}
+-- What a string is answered with, and the book after it. 01, Records, Places of refusal, Hours and Area money; 02, Items 2 and 3.
+use Rattle.std.specs.Prelude.{cond, List, [], ◌∷◌, ℕ, zero, suc, ◌+◌, pos, eqb, get_or, set, Result, Ok, Err}
 use Rattle.numbers.specs.Lists.{list_below}
+use Rattle.calendar.specs.Peak.{day_hours}
 use Rattle.money.specs.declared.Cents.{Cents}
 use Rattle.money.specs.Quantities.{cents}
 use Rattle.money.specs.Lines.{line}
@@ -8,10 +9,12 @@ use Rattle.records.specs.declared.format.UnitRecord.{UnitRecord}
 use Rattle.records.specs.declared.format.HourRecord.{HourRecord}
 use Rattle.records.specs.declared.format.LoadRecord.{LoadRecord}
 use Rattle.records.specs.declared.format.OwnerRecord.{OwnerRecord}
+use Rattle.records.specs.declared.format.DayRecord.{DayRecord}
 use Rattle.records.specs.Format.{party_count}
 use Rattle.records.specs.Decoded.{decoded}
-use Rattle.records.specs.Kinds.{Decoded, of_year, of_area, of_unit, of_commitment, of_hour, of_load, of_post, of_owner}
+use Rattle.records.specs.Kinds.{Decoded, of_year, of_area, of_unit, of_commitment, of_hour, of_load, of_post, of_owner, of_day}
 use Rattle.rules.specs.Hours.{hour_index, counted}
+use Rattle.rules.specs.Days.{day_hour}
 use Rattle.rules.specs.Facts.{no_hours}
 use Rattle.rules.specs.Dues.{due_in}
 use Rattle.rules.specs.declared.refusal.Refusal.{Refusal}
@@ -28,6 +31,15 @@ new_unit r = record { entry = r; owner = 0; hours = no_hours; last = 0 }
 abbrev pub with_hour : ℕ → UnitEntry → HourRecord → UnitEntry
 with_hour y u h = record { entry = u.entry; owner = u.owner; hours = counted y u.hours h; last = hour_index y h }
 
+-- 02, Item 3: a unit with the first n hours of a Day more, "hours 1 to 24 in turn",
+unfoldable pub with_hours : ℕ → UnitEntry → DayRecord → ℕ → UnitEntry
+with_hours y u d zero = u
+with_hours y u d (suc n) = with_hour y (with_hours y u d n) (day_hour d (n + 1))
+
+-- and with all of them
+abbrev pub with_day : ℕ → UnitEntry → DayRecord → UnitEntry
+with_day y u d = with_hours y u d day_hours
+
 -- 02, Item 2: a unit with an owner; a later one replaces
 abbrev pub with_owner : UnitEntry → OwnerRecord → UnitEntry
 with_owner u o = record { entry = u.entry; owner = o.party; hours = u.hours; last = u.last }
@@ -41,12 +53,14 @@ abbrev pub obligations_after : Book → LoadRecord → List (List ℕ)
 obligations_after b l =
     set b.obligations (area_index l.area) (set (get_or b.obligations (area_index l.area) no_obligations) (party_index l.party) l.obligation)
 
--- the units after an accepted record: a new one, or one with an hour more or an owner
+-- the units after an accepted record: a new one, or one with an hour or a day more or an owner
 abbrev pub units_after : Book → Decoded → List UnitEntry
 units_after b r =
     of_unit
     (of_hour
-    (of_owner b.units (λ o. set b.units (unit_index o.unit) (with_owner (get_or b.units (unit_index o.unit) no_entry) o)) r)
+    (of_owner
+    (of_day b.units (λ d. set b.units (unit_index d.unit) (with_day b.year (get_or b.units (unit_index d.unit) no_entry) d)) r)
+    (λ o. set b.units (unit_index o.unit) (with_owner (get_or b.units (unit_index o.unit) no_entry) o)) r)
     (λ h. set b.units (unit_index h.unit) (with_hour b.year (get_or b.units (unit_index h.unit) no_entry) h)) r)
     (λ u. set b.units (unit_index u.unit) (new_unit u))
     r

@@ -1,50 +1,53 @@
--- A run of accepted Hour records in a row, with nothing between them.
-use Rattle.std.specs.Prelude.{◌≡◌, Bool, true, false, cond, ◌&&◌, List, [], ◌∷◌, ℕ, zero, suc, ◌+◌, ◌/◌, eqb, length, take, drop}
+-- A run of accepted Hour and Day records in a row, with nothing between them.
+use Rattle.std.specs.Prelude.{◌≡◌, Bool, cond, ◌&&◌, List, [], ◌∷◌, ℕ, zero, suc, ◌+◌, eqb, length, take, drop}
 use mathlib.Core.List.{flatten}
-use Rattle.records.specs.Format.{bytes_of, hour_format}
+use Rattle.records.specs.Format.{Format, hour_format, day_format}
 use Rattle.records.specs.Decoded.{decoded}
-use Rattle.records.specs.Kinds.{of_hour}
+use Rattle.records.specs.Kinds.{is_one_of}
+use Rattle.records.specs.Stream.{next_record, on_next, first_strings}
 use Rattle.book.specs.Books.{Book}
 use Rattle.book.specs.Entered.{entered, book_after}
 
--- so many bytes has an Hour record
-abbrev pub hour_length : ℕ
-hour_length = bytes_of hour_format
+-- a record of one of these formats that the book answers with 0
+abbrev pub is_accepted_as : List Format → Book → List ℕ → Bool
+is_accepted_as fs b s = is_one_of fs (decoded s) && eqb (entered b s).number 0
 
--- as many bytes of s from a place on
-abbrev pub hour_bytes : List ℕ → ℕ → List ℕ
-hour_bytes s from = take hour_length (drop from s)
+-- how many bytes the next record of a stream has, if it is such a record; else 0
+unfoldable pub first_accepted : List Format → Book → List ℕ → ℕ
+first_accepted fs b s = on_next 0 0 (λ k. cond (is_accepted_as fs b (take k s)) k 0) (next_record s)
 
--- an Hour record that the book answers with 0
-abbrev pub is_accepted_hour : Book → List ℕ → Bool
-is_accepted_hour b s = of_hour false (λ h. true) (decoded s) && eqb (entered b s).number 0
+-- hours come in Hour and in Day records
+abbrev pub hour_kinds : List Format
+hour_kinds = hour_format ∷ day_format ∷ []
 
--- where a run of accepted hours ends, and the book after it
+-- where a run of them ends, how many they are, and the book after it
 pub record Run : Type 0 where
   pub next : ℕ
+  pub count : ℕ
   pub book : Book
 
-abbrev pub run : ℕ → Book → Run
-run next book = record { next = next; book = book }
+abbrev pub run : ℕ → ℕ → Book → Run
+run next count book = record { next = next; count = count; book = book }
 
--- at most n of them: up to the first that is anything else or would be refused, each entered in turn
-unfoldable pub hours_of : ℕ → Book → List ℕ → ℕ → Run
-hours_of zero b s from = run from b
-hours_of (suc n) b s from =
-    cond (is_accepted_hour b (hour_bytes s from)) (hours_of n (entered b (hour_bytes s from)).book s (from + hour_length)) (run from b)
+-- how many bytes the next of them has at a place; 0 where none is
+abbrev pub next_hours : Book → List ℕ → ℕ → ℕ
+next_hours b s from = first_accepted hour_kinds b (drop from s)
 
--- those at the start of s
+-- at most n of them from a place on, after so many: up to the first record that is anything else or would be refused, each entered
+-- in turn
+unfoldable pub hours_of : ℕ → Book → List ℕ → ℕ → ℕ → Run
+hours_of zero b s from count = run from count b
+hours_of (suc n) b s from count =
+    cond (eqb (next_hours b s from) 0) (run from count b)
+    (hours_of n (entered b (take (next_hours b s from) (drop from s))).book s (from + next_hours b s from) (suc count))
+
+-- those at the start of s; each has at least a byte
 abbrev pub first_hours : Book → List ℕ → Run
-first_hours b s = hours_of (length s / hour_length) b s 0
+first_hours b s = hours_of (length s) b s 0 0
 
--- so many strings of an Hour record's length, one after another from a place on
-unfoldable pub hour_strings : ℕ → List ℕ → ℕ → List (List ℕ)
-hour_strings zero s from = []
-hour_strings (suc n) s from = hour_bytes s from ∷ hour_strings n s (from + hour_length)
-
--- those that a run over s took
+-- the strings that a run over s took
 abbrev pub strings_taken : Run → List ℕ → List (List ℕ)
-strings_taken r s = hour_strings (r.next / hour_length) s 0
+strings_taken r s = first_strings r.count s
 
 -- what a run over s does is what is done with the strings that it took
 pub record HourRunLaws : Type 0 where

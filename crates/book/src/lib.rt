@@ -1,15 +1,20 @@
 // The book: units, commitments and posted sums, one value; records are entered, and areas posted.
 #![tactic(auto)]
 
-ghost use Rattle.std.specs.Prelude.{◌≡◌, cond, length};
+ghost use Rattle.std.specs.Prelude.{◌≡◌, [], ◌∷◌};
 ghost use Rattle.book.specs.Books.{empty_book};
 ghost use Rattle.book.specs.Entered.{answered, entered};
-ghost use Rattle.book.specs.Runs.{is_accepted_hour, run, first_hours};
+ghost use Rattle.records.specs.Format.{hour_format, day_format};
+ghost use Rattle.book.specs.Runs.{hour_kinds, first_accepted, run, first_hours};
+ghost use Rattle.book.specs.Steps.{Moved};
 
+use calendar::delivery_year::KnownDate;
 use capacity::rating::HourCounts;
 use money::Cents;
-use records::decode::{decode, hour_of};
-use records::format::{AreaRecord, CommitmentRecord, HOUR_BYTES, Record, UnitRecord};
+use records::decode::{decode, first_day, first_hour};
+use records::format::{AreaRecord, CommitmentRecord, DAY_BYTES, HOUR_BYTES, Record, UnitRecord};
+use rules::day::{date_named, day_hour};
+use rules::hour::date_of;
 use rules::indices::{self, area_named, index, unit_named};
 use rules::refusal::{Asked, Refusal};
 use std::marker::Model;
@@ -38,6 +43,13 @@ pub struct Book {
     // By area and then party.
     obligations: [[u32; Book::PARTIES]; Book::AREAS],
     posted: [[Cents; Book::PARTIES]; Book::AREAS],
+}
+
+// The records at the start of a slice that `hours` took, and their bytes.
+#[derive(Clone, Copy)]
+pub struct Taken {
+    pub bytes: usize,
+    pub records: usize,
 }
 
 // Clauses see a book as what has been entered; all of that is in its ranges.
@@ -85,7 +97,8 @@ impl Book {
         let j = unit_named(r);
         let unit = self.units[j];
         let asked = Asked::new(self.year, self.areas[i], unit.entry, unit.last);
-        asked.admit(r)?;
+        let date = date_named(self.year, r);
+        asked.admit(r, date)?;
         match r {
             Record::Year(y) => self.year = y,
             Record::Area(a) => self.areas[i] = a,
@@ -94,47 +107,91 @@ impl Book {
                 let k = index::<{ Book::COMMITMENTS }>(c.number);
                 self.commitments[k] = c;
             }
-            Record::Hour(h) => self.units[j] = unit.with_hour(self.year, h),
+            Record::Hour(h) => self.units[j] = unit.with_hour(self.year, h, date),
             Record::Load(l) => {
                 let p = index::<{ Book::PARTIES }>(l.party);
                 self.obligations[i][p] = l.obligation;
             }
             Record::Post(_) => return self.post(i),
             Record::Owner(o) => self.units[j] = unit.with_owner(o),
+            Record::Day(d) => self.units[j] = unit.with_day(self.year, d, date),
         }
         Ok([Cents::zero(); Book::PARTIES])
     }
 
-    // An Hour as `enter` takes it, and nothing else: whether it was accepted. Beside `enter`, which goes by `decode`: with that a
-    // run misses the aim of speed (docs/DECISIONS.md, 41).
-    fn enter_hour(&mut self, bytes: &[u8]) -> bool
-        ensures value { result ≡ is_accepted_hour self.old bytes.now }
-        ensures book { self.new ≡ cond result (entered self.old bytes.now).book self.old }
+    // The next record of a slice, if it is an Hour that is accepted: how many bytes it has; else 0, and the book stays. Beside `enter`,
+    // which goes by `decode`: with that a run is slower (docs/DECISIONS.md, 41).
+    fn enter_hour(&mut self, s: &[u8], date: &mut KnownDate) -> usize
+        ensures value { result ≡ first_accepted (hour_format ∷ []) self.old s.now }
+        ensures book { Moved self.old s.now result self.new }
     {
-        let Some(h) = hour_of(bytes) else {
-            return false;
+        let Some(h) = first_hour(s) else {
+            return 0;
         };
         let j = index::<{ Book::UNITS }>(h.unit);
         let unit = self.units[j];
+        let known = date.or_known(date_of(self.year, h));
+        *date = known;
         let asked = Asked::new(self.year, self.areas[0], unit.entry, unit.last);
-        if asked.admit_hour(h).is_err() {
-            return false;
+        if asked.admit_hour(h, known).is_err() {
+            return 0;
         }
-        self.units[j] = unit.with_hour(self.year, h);
-        true
+        self.units[j] = unit.with_hour(self.year, h, known);
+        HOUR_BYTES
     }
 
-    // The Hour records at the start of a slice, entered one after another: up to the first record that is anything else or
-    // would be refused. Answers where that begins. By a loop: of a closure that changes the book nothing would be known.
-    pub fn hours(&mut self, s: &[u8]) -> usize
-        ensures { run result self.new ≡ first_hours self.old s.now }
+    // The same of a Day.
+    fn enter_day(&mut self, s: &[u8], date: &mut KnownDate) -> usize
+        ensures value { result ≡ first_accepted (day_format ∷ []) self.old s.now }
+        ensures book { Moved self.old s.now result self.new }
     {
-        for (k, bytes) in s.chunks_exact(HOUR_BYTES).enumerate() {
-            if !self.enter_hour(bytes) {
-                return k * HOUR_BYTES;
-            }
+        let Some(d) = first_day(s) else {
+            return 0;
+        };
+        let j = index::<{ Book::UNITS }>(d.unit);
+        let unit = self.units[j];
+        let known = date.or_known(date_of(self.year, day_hour(d, 1)));
+        *date = known;
+        let asked = Asked::new(self.year, self.areas[0], unit.entry, unit.last);
+        if asked.admit_day(d, known).is_err() {
+            return 0;
         }
-        s.len() - s.len() % HOUR_BYTES
+        self.units[j] = unit.with_day(self.year, d, known);
+        DAY_BYTES
+    }
+
+    // The next record, if it is an Hour or a Day that is accepted.
+    fn enter_next(&mut self, s: &[u8], date: &mut KnownDate) -> usize
+        ensures value { result ≡ first_accepted hour_kinds self.old s.now }
+        ensures book { Moved self.old s.now result self.new }
+    {
+        let bytes = self.enter_hour(s, date);
+        if bytes != 0 {
+            return bytes;
+        }
+        self.enter_day(s, date)
+    }
+
+    // The Hour and Day records at the start of a slice, entered one after another: up to the first record that is anything else or
+    // would be refused. They come by the date, which is worked out once for as many as have it.
+    pub fn hours(&mut self, s: &[u8]) -> Taken
+        ensures { run result.bytes result.records self.new ≡ first_hours self.old s.now }
+    {
+        let mut date = KnownDate::none();
+        let mut taken = Taken {
+            bytes: 0,
+            records: 0,
+        };
+        loop {
+            let bytes = self.enter_next(&s[taken.bytes..], &mut date);
+            if bytes == 0 {
+                return taken;
+            }
+            taken = Taken {
+                bytes: taken.bytes + bytes,
+                records: taken.records + 1,
+            };
+        }
     }
 }
 

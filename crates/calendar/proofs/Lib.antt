@@ -1,7 +1,9 @@
+pub mod HourBits
 pub mod Months
 pub mod Years
 pub mod Dates
 pub mod Weeks
 pub mod Kept
 pub mod DeliveryYears
+pub mod PeakHours
 pub mod Figures

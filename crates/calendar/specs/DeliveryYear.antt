@@ -3,6 +3,11 @@
 use Rattle.std.specs.Prelude.{Bool, cond, ◌&&◌, ℕ, ◌+◌, ◌-◌, leb}
 use Rattle.calendar.specs.Gregorian.{leap_year, is_date, day_number}
 use Rattle.calendar.specs.Peak.{peak_hour}
+use Rattle.calendar.specs.declared.delivery_year.DeliveryDate.{DeliveryDate}
+
+-- no date of any year
+abbrev pub no_date : DeliveryDate
+no_date = record { year = 0; month = 0; day = 0 }
 
 -- 366 days if y + 1 is a leap year, else 365: document 01's "days"
 unfoldable pub delivery_days : ℕ → ℕ

@@ -1,7 +1,9 @@
 -- What makes the formulas of this folder the calendar.
-use Rattle.std.specs.Prelude.{◌≡◌, ◌≢◌, ◌⊎◌, Bool, true, cond, ◌||◌, ℕ, ◌+◌, ◌≤◌, ◌<◌}
+use Rattle.std.specs.Prelude.{◌≡◌, ◌≢◌, ◌⊎◌, Bool, true, false, cond, ◌||◌, ℕ, ◌+◌, ◌*◌, ◌≤◌, ◌<◌}
+use Rattle.numbers.specs.Range.{within}
 use Rattle.calendar.specs.Gregorian.{Date, leap_year, is_date, days_before_year, day_number, is_earlier, next_date}
 use Rattle.calendar.specs.Week.{monday, tuesday, friday, saturday, sunday, weekday}
+use Rattle.calendar.specs.Peak.{day_hours, hour_bits, has_hour}
 use Rattle.calendar.specs.Holidays.{third_monday, falls_on, has_june_19, is_holiday}
 use Rattle.calendar.specs.DeliveryYear.{delivery_days, delivery_day}
 
@@ -30,6 +32,20 @@ pub record CalendarLaws : Type 0 where
   pub first_day : (y : ℕ) → delivery_day y 6 1 ≡ 0
   pub last_day : (y : ℕ) → delivery_day y 5 31 + 1 ≡ delivery_days y
   pub day_below : (y m d : ℕ) → delivery_day y m d < delivery_days y
+
+-- hours of a day as bits
+pub record HourBitLaws : Type 0 where
+  -- 02, Item 3: of three bytes "the lowest bit of the last byte is the hour ending 1, the highest of the first the hour ending 24"
+  pub lowest_bit : has_hour 1 1 ≡ true
+  pub highest_bit : has_hour (128 * 65536) 24 ≡ true
+  -- and between these eight hours a byte
+  pub last_byte : (a b c h : ℕ) → within 1 8 h ≡ true → has_hour (a * 65536 + b * 256 + c) h ≡ has_hour c h
+  pub middle_byte : (a b c h : ℕ) → c < 256 → within 1 8 h ≡ true → has_hour (a * 65536 + b * 256 + c) (h + 8) ≡ has_hour b h
+  pub first_byte : (a b c h : ℕ) → b < 256 → c < 256 → within 1 8 h ≡ true → has_hour (a * 65536 + b * 256 + c) (h + 16) ≡ has_hour a h
+  -- the bits of the hours at which f holds
+  pub bits_of_hours : (f : ℕ → Bool) (h : ℕ) → within 1 day_hours h ≡ true → has_hour (hour_bits f) h ≡ f h
+  -- no hour is outside 1 to 24
+  pub no_other_hour : (hours h : ℕ) → within 1 day_hours h ≡ false → has_hour hours h ≡ false
 
 abbrev pub next_of : Date → Date
 next_of t = next_date t.year t.month t.day

@@ -1,7 +1,10 @@
 -- Peak hours, and the peak question.
 -- 01, Hours; 002 (b), where they are called Peak-Hour Periods.
-use Rattle.std.specs.Prelude.{Bool, cond, ◌&&◌, ◌||◌, ℕ, Option, Some, None}
+use Rattle.std.specs.Prelude.{Bool, cond, ◌&&◌, ◌||◌, ℕ, ◌+◌, ◌-◌, eqb, Option, Some, None}
+use Rattle.std.specs.Int.{bit_at}
 use Rattle.numbers.specs.Range.{within}
+use Rattle.numbers.specs.Sum.{sum_below}
+use Rattle.numbers.specs.Bits.{bits_below}
 use Rattle.calendar.specs.Gregorian.{is_date}
 use Rattle.calendar.specs.Week.{weekday}
 use Rattle.calendar.specs.Holidays.{work_day, has_june_19}
@@ -13,6 +16,23 @@ summer_peak m h = within 6 8 m && within 15 19 h
 -- January and February, hours ending 8, 9, 19 and 20
 unfoldable pub winter_peak : ℕ → ℕ → Bool
 winter_peak m h = within 1 2 m && (within 8 9 h || within 19 20 h)
+
+-- 01, Records: a day has hours ending 1 to 24
+abbrev pub day_hours : ℕ
+day_hours = 24
+
+-- hours of a day as bits, as 02, Item 3 numbers them: "the lowest bit .. is the hour ending 1, the highest .. the hour ending 24".
+-- Those at which f holds,
+abbrev pub hour_bits : (ℕ → Bool) → ℕ
+hour_bits f = bits_below day_hours (λ k. f (k + 1))
+
+-- and whether the hour ending h is one of them
+abbrev pub has_hour : ℕ → ℕ → Bool
+has_hour hours h = within 1 day_hours h && eqb (bit_at hours (h - 1)) 1
+
+-- how many they are
+abbrev pub hour_count : ℕ → ℕ
+hour_count hours = sum_below day_hours (λ k. cond (has_hour hours (k + 1)) 1 0)
 
 -- the month and hour of a peak hour
 unfoldable pub peak_period : ℕ → ℕ → Bool

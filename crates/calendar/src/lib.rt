@@ -6,6 +6,7 @@
 pub mod delivery_year;
 mod gregorian;
 mod holidays;
+pub mod hours;
 pub mod laws;
 mod peak;
 pub mod question;

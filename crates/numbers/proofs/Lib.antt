@@ -10,3 +10,4 @@ pub mod Sizes
 pub mod Distribution
 pub mod Arrays
 pub mod Rows
+pub mod Bits

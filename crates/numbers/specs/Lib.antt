@@ -6,3 +6,4 @@ pub mod Split
 pub mod Laws
 pub mod Rows
 pub mod Figures
+pub mod Bits

@@ -12,7 +12,7 @@ use Rattle.records.specs.declared.format.HourRecord.{HourRecord}
 use Rattle.records.specs.declared.format.LoadRecord.{LoadRecord}
 use Rattle.records.specs.declared.format.OwnerRecord.{OwnerRecord}
 use Rattle.records.specs.Format.{area_count, unit_count, commitment_count, party_count, year_format, area_format, unit_format, commitment_format, hour_format}
-use Rattle.records.specs.Format.{load_format, post_format, owner_format}
+use Rattle.records.specs.Format.{load_format, post_format, owner_format, day_format}
 use Rattle.records.specs.Kinds.{Decoded, is_of}
 use Rattle.rules.specs.Hours.{hour_index}
 use Rattle.rules.specs.Facts.{no_area, no_commitment, is_entered}
@@ -152,8 +152,8 @@ module _ (b : Book) (acc : List Decoded) (s : Sound b) (k : Kept acc) (g : Agree
       (λ q. ap (λ (c : Cents). c.0) (element_below party_count _ p (cents (pos 0)) hp) ∙ rw (named_index area_count n a ok q, agreed_facts b acc g))
       (g.posted a p ha hp)
 
-  -- the book after an accepted record, and the list with it
-  module _ (r : Decoded) (ok : Accepted (asked (facts_of_list acc) r) r) where
+  -- the book after an accepted record that is no Day, and the list with it
+  module _ (r : Decoded) (ok : Accepted (asked (facts_of_list acc) r) r) (no_day : is_of day_format r ≡ false) where
     -- a Year comes before all units
     unit_agrees : (j : ℕ) → get_or (units_after b r) j no_entry ≡ unit_in (r ∷ acc) j
     unfolding year_of unit_of latest_owner accepted_hours facts_of_list sum_over last_index
@@ -162,7 +162,7 @@ module _ (b : Book) (acc : List Decoded) (s : Sound b) (k : Kept acc) (g : Agree
         by_kind P r year_format tt (λ q. g.units j ∙ rw (before_year acc k r ok q))
         (λ y. by_kind P r unit_format tt (λ q. new_unit_lem _ j (fit ok unit_format tt q).0 (as_made (facts_of_list acc) r ok unit_format tt q).first_unit)
         (λ u. by_kind P r hour_format tt (λ q. hour_more _ j (fit ok hour_format tt q).0)
-        (λ h. by_kind P r owner_format tt (λ q. owner_more _ j (fit ok owner_format tt q).0) (λ o. rw (y, u, h, o) (g.units j)))))
+        (λ h. by_kind P r owner_format tt (λ q. owner_more _ j (fit ok owner_format tt q).0) (λ o. rw (y, u, h, o, no_day) (g.units j)))))
 
     pub agrees_more : Agrees (after b r) (r ∷ acc)
     unfolding year_of latest_area latest_commitment latest_load reckoned_paid

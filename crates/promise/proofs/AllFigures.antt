@@ -23,7 +23,7 @@ use Rattle.rules.specs.Refusal.{days_fit, numbers_fit, in_range, refusal_of}
 use Rattle.rules.specs.Rules.{index}
 use Rattle.promise.specs.Reckoning.{year_of, latest_area, unit_of, latest_commitment, latest_load, accepted_hours, sum_over, last_index, facts_of_list}
 use Rattle.promise.specs.Reckoning.{Answered}
-use Rattle.promise.specs.Figures.{Figure, year, area, unit, commitment, load, post, calendar, capacity, split, credit, FigureGiven, before_loads}
+use Rattle.promise.specs.Figures.{Figure, year, area, unit, commitment, load, post, calendar, capacity, split, credit, FigureGiven, answer, no_lines, before_loads}
 use Rattle.promise.specs.Figures.{before_loads_answers, reckoned_rows, figures}
 use Rattle.promise.proofs.Runs.{Fed, none_next, accepted_next, refused_next}
 use Rattle.promise.proofs.Example.{area₁, unit₁, unit₂, commitment₁, commitment₂, load₅, load₇, unloaded, loaded, first_number, second_number}
@@ -48,15 +48,21 @@ before_loads_run ss more =
     (accepted_next (commitment 1 1 5 0 364 4000000) (Ok (Commitment commitment₁)) after₄ _ refl refl refl
     (accepted_next (commitment 2 2 6 0 364 1000000) (Ok (Commitment commitment₂)) (Ok (Commitment commitment₁) ∷ after₄) ss refl refl refl more)))))
 
+pub loads_run : (ss : List (List ℕ)) {rest : List Answered} {after : List Decoded} → Fed loaded ss rest after
+    → Fed [] (before_loads ++ (load 1 5 500000 ∷ load 1 7 600000 ∷ ss)) (before_loads_answers ++ (answer 0 no_lines ∷ answer 0 no_lines ∷ rest)) after
+unfolding number_at is_broken of_length framed decoded within index numbers_fit in_range refusal_of list_below year_of latest_area facts_of_list
+loads_run ss more =
+    before_loads_run _
+    (accepted_next (load 1 5 500000) (Ok (Load load₅)) unloaded _ refl refl refl
+    (accepted_next (load 1 7 600000) (Ok (Load load₇)) (Ok (Load load₅) ∷ unloaded) ss refl refl refl more))
+
 reckoned_figures : EachGiven FigureGiven reckoned_rows
 unfolding number_at is_broken of_length framed decoded within index numbers_fit in_range refusal_of list_below year_of latest_area facts_of_list
 reckoned_figures = (
-  (before_loads_run _
-      (accepted_next (load 1 5 500000) (Ok (Load load₅)) unloaded _ refl refl refl
-      (accepted_next (load 1 7 600000) (Ok (Load load₇)) (Ok (Load load₅) ∷ unloaded) _ refl refl refl
+  (loads_run _
       (accepted_next (post 1) (Ok (Post 1)) loaded _ refl first_number first_lines_lem
       (accepted_next (post 1) (Ok (Post 1)) (Ok (Post 1) ∷ loaded) _ refl second_number second_lines
-      (refused_next (post 2) (Ok (Post 2)) (Ok (Post 1) ∷ Ok (Post 1) ∷ loaded) [] 7 refl refl refl (none_next (Ok (Post 1) ∷ Ok (Post 1) ∷ loaded)))))))
+      (refused_next (post 2) (Ok (Post 2)) (Ok (Post 1) ∷ Ok (Post 1) ∷ loaded) [] 7 refl refl refl (none_next (Ok (Post 1) ∷ Ok (Post 1) ∷ loaded)))))
       ).answers_are,
   (
     (before_loads_run _

@@ -128,17 +128,17 @@ module _ (price : ℕ) (o : ℕ → ℕ → ℕ) (hours : ℕ → HourCounts) (l
   nets_are {nets} n p h = unowned_net facts (λ u. refl) 0 p ∙ net_of_two p h ∙ by_list party_count added nets (pos 0) n p h
 
 -- no hours, and none that is the last
-abbrev none : ℕ → HourCounts
+abbrev pub none : ℕ → HourCounts
 none u = no_hours
 
-abbrev no_last : ℕ → ℕ
+abbrev pub no_last : ℕ → ℕ
 no_last u = 0
 
 facts_unloaded : facts_of_list unloaded ≡ example 9000 (λ a p. 0) none no_last
 unfolding facts_of_list year_of latest_area unit_of latest_commitment latest_load latest_owner accepted_hours sum_over last_index
 facts_unloaded = refl
 
-facts_loaded : facts_of_list loaded ≡ example 9000 (latest_obligation loaded) none no_last
+pub facts_loaded : facts_of_list loaded ≡ example 9000 (latest_obligation loaded) none no_last
 unfolding facts_of_list year_of latest_area unit_of latest_commitment latest_load latest_owner accepted_hours sum_over last_index
 facts_loaded = refl
 
@@ -156,23 +156,23 @@ pub obligations_listed : list_below party_count (latest_obligation loaded 0) ≡
 unfolding list_below latest_load
 obligations_listed = refl
 
-abbrev nets : List ℤ
+abbrev pub nets : List ℤ
 nets = of_three (pos 450000) (neg_ℤ (pos 100000)) (pos 0)
 
-nets_listed : (o : ℕ → ℕ → ℕ) → list_below party_count (added 9000 o none no_last) ≡ nets
+pub nets_listed : (o : ℕ → ℕ → ℕ) → list_below party_count (added 9000 o none no_last) ≡ nets
 unfolding list_below sum_below unit_share unit_committed is_ready limited_shortfall unit_limit unit_shortfall limited limit quarters available unforced committed
     split_signed with_sign split first_shares
 nets_listed o = refl
 
 -- worked out; that the table has them is for the table to say
-abbrev dues_found : List ℤ
+abbrev pub dues_found : List ℤ
 dues_found = of_three (neg_ℤ (pos 955637)) (pos 328500) (pos 627137)
 
-dues_listed : list_below party_count (due (amount_of nets) 9000 365 (element obligations)) ≡ dues_found
+pub dues_listed : list_below party_count (due (amount_of nets) 9000 365 (element obligations)) ≡ dues_found
 unfolding list_below sum_below above below priced charge ceiling charges ceilings credit left load_share due split first_shares
 dues_listed = refl
 
-distributed : is_undistributed (amount_of nets) 9000 365 (element obligations) ≡ false
+pub distributed : is_undistributed (amount_of nets) 9000 365 (element obligations) ≡ false
 unfolding sum_below above below priced charge ceiling charges ceilings left is_undistributed
 distributed = refl
 
@@ -180,23 +180,30 @@ not_distributed : is_undistributed (amount_of nets) 9000 365 (element no_obligat
 unfolding sum_below above below priced charge ceiling charges ceilings left is_undistributed
 not_distributed = refl
 
--- the dues with both Loads; with them no money is left over undistributed, without them some is
-dues_loaded : (p : ℕ) → p < party_count → reckoned_due loaded 0 p ≡ amount_of dues_found p
-unfolding reckoned_due
-dues_loaded p h =
-    ap (λ (F : Facts). due_in F 0 p) facts_loaded
-    ∙ dues_are (example 9000 (latest_obligation loaded) none no_last) refl refl nets (nets_are 9000 (latest_obligation loaded) none no_last (nets_listed (latest_obligation loaded))) obligations_listed dues_listed p h
+-- the dues with both Loads and the number of Post 1, whatever price and hours
+module _ (acc : List Decoded) (price : ℕ) (hours : ℕ → HourCounts) (last : ℕ → ℕ) (f : facts_of_list acc ≡ example price (latest_obligation loaded) hours last)
+    (ns : List ℤ) (n : list_below party_count (added price (latest_obligation loaded) hours last) ≡ ns) where
+  pub dues_with : {dues : List ℤ} → list_below party_count (due (amount_of ns) price 365 (element obligations)) ≡ dues
+      → (p : ℕ) → p < party_count → reckoned_due acc 0 p ≡ amount_of dues p
+  unfolding reckoned_due
+  dues_with e p h =
+      ap (λ (F : Facts). due_in F 0 p) f
+      ∙ dues_are (example price (latest_obligation loaded) hours last) refl refl ns (nets_are price (latest_obligation loaded) hours last n) obligations_listed e p h
 
-post_loaded : refusal_of (asked (example 9000 (latest_obligation loaded) none no_last) (Ok (Post 1))) (Ok (Post 1)) ≡ 0
-post_loaded =
-    post_accepted (example 9000 (latest_obligation loaded) none no_last) refl refl nets
-    (nets_are 9000 (latest_obligation loaded) none no_last (nets_listed (latest_obligation loaded))) obligations_listed distributed
+  pub number_with : is_undistributed (amount_of ns) price 365 (element obligations) ≡ false → refusal_of (asked (facts_of_list acc) (Ok (Post 1))) (Ok (Post 1)) ≡ 0
+  number_with e =
+      rw f
+      (post_accepted (example price (latest_obligation loaded) hours last) refl refl ns (nets_are price (latest_obligation loaded) hours last n) obligations_listed e)
+
+-- those of the example; with the Loads no money is left over undistributed, without them some is
+dues_loaded : (p : ℕ) → p < party_count → reckoned_due loaded 0 p ≡ amount_of dues_found p
+dues_loaded = dues_with loaded 9000 none no_last facts_loaded nets (nets_listed (latest_obligation loaded)) dues_listed
 
 pub first_number : refusal_of (asked (facts_of_list loaded) (Ok (Post 1))) (Ok (Post 1)) ≡ 0
-first_number = rw facts_loaded post_loaded
+first_number = number_with loaded 9000 none no_last facts_loaded nets (nets_listed (latest_obligation loaded)) distributed
 
 pub second_number : refusal_of (asked (facts_of_list (Ok (Post 1) ∷ loaded)) (Ok (Post 1))) (Ok (Post 1)) ≡ 0
-second_number = rw (post_keeps 1 loaded, facts_loaded) post_loaded
+second_number = rw (post_keeps 1 loaded) first_number
 
 pub unloaded_number : refusal_of (asked (facts_of_list unloaded) (Ok (Post 1))) (Ok (Post 1)) ≡ 11
 unloaded_number =

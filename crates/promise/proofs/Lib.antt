@@ -15,5 +15,7 @@ pub mod Written
 pub mod Example
 pub mod AllFigures
 pub mod Ways
+pub mod Marked
 pub mod Unowned
+pub mod EitherWays
 pub mod Ready

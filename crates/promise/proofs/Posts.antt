@@ -10,7 +10,8 @@ use Rattle.numbers.proofs.Lists.{element_below, list_same}
 use Rattle.numbers.proofs.SignedSums.{sum_same_ℤ, sum_add_ℤ}
 use Rattle.money.specs.Quantities.{cents, cents_of}
 use Rattle.money.specs.declared.Cents.{Cents}
-use Rattle.records.specs.declared.format.Record.TheVariants.{Post}
+use Rattle.records.specs.declared.format.HourRecord.{HourRecord}
+use Rattle.records.specs.declared.format.Record.TheVariants.{Hour, Post}
 use Rattle.records.specs.Format.{area_count, party_count, post_format}
 use Rattle.records.specs.Decoded.{decoded}
 use Rattle.records.specs.Kinds.{Decoded, numbers_of, is_of, of_post}
@@ -25,7 +26,7 @@ use Rattle.promise.specs.Promise.{Entry, number_of, line_of, is_post}
 use Rattle.promise.specs.Laws.{answered}
 use Rattle.promise.proofs.Agreement.{agreed_facts}
 use Rattle.promise.proofs.LineSums.{lines_add_up}
-use Rattle.promise.proofs.OneMore.{list_kept, post_accepted}
+use Rattle.promise.proofs.OneMore.{joined_keeps, list_kept, post_accepted}
 use Rattle.promise.proofs.Runs.{list_after}
 use Rattle.promise.proofs.Meeting.{Meets, number_met, accepted_by, book_after_lem, book_kept, meets_next}
 
@@ -45,6 +46,10 @@ other_paid : (acc : List Decoded) (a p : ℕ) (r : Decoded) → of_post false (�
 unfolding reckoned_paid
 other_paid acc a p r e =
     by_key (λ z. z ≡ reckoned_paid acc a p) (is_of post_format r) (eqb (element (numbers_of r) 0) (a + 1)) (λ q k. absurd (true≢false (rw (q, k) at e))) refl
+
+no_hour_pays : (h : HourRecord) (acc : List Decoded) (a p : ℕ) → reckoned_paid (Ok (Hour h) ∷ acc) a p ≡ reckoned_paid acc a p
+unfolding reckoned_paid
+no_hour_pays h acc a p = refl
 
 module _ (b : Book) (acc : List Decoded) (m : Meets b acc) (s : List ℕ) where
   -- the entry that s makes
@@ -104,7 +109,7 @@ module _ (b : Book) (acc : List Decoded) (m : Meets b acc) (s : List ℕ) where
         where
           other : (u : Bool) → eqb (number_for acc s) 0 ≡ u → (u && of_post false (λ n. eqb n (a + 1)) (decoded s)) ≡ false
               → reckoned_paid (accepted_with acc s) a p ≡ reckoned_paid acc a p
-          other true z x = rw (list_after acc s (eqb-true (number_for acc s) 0 z)) (other_paid acc a p (decoded s) x)
+          other true z x = rw (list_after acc s (eqb-true (number_for acc s) 0 z)) (joined_keeps (λ l. reckoned_paid l a p) (λ h l. no_hour_pays h l a p) acc (decoded s) (λ q. other_paid acc a p (decoded s) x))
           other false z x = rw (list_kept acc s z)
 
   -- right after an accepted Post of the area what is paid is the due

@@ -7,7 +7,7 @@ use Rattle.records.specs.Kinds.{Decoded, of_post}
 use Rattle.rules.specs.Refusal.{refusal_of}
 use Rattle.rules.specs.Facts.{Facts}
 use Rattle.rules.specs.Rules.{asked, refusal}
-use Rattle.promise.specs.Reckoning.{facts_of_list, Answered, number_for, accepted_with, reckoned_line, line_for, answers_of, accepted_of}
+use Rattle.promise.specs.Reckoning.{facts_of_list, Answered, number_for, joined, accepted_with, reckoned_line, line_for, answers_of, accepted_of}
 use Rattle.promise.proofs.OneMore.{list_kept}
 use Rattle.promise.specs.Figures.{answer, no_lines}
 
@@ -17,7 +17,7 @@ number_of F s r n d e = rw d e
 
 module _ (acc : List Decoded) (s : List ℕ) where
   -- the list after an accepted string, and after a refused one
-  pub list_after : number_for acc s ≡ 0 → accepted_with acc s ≡ decoded s ∷ acc
+  pub list_after : number_for acc s ≡ 0 → accepted_with acc s ≡ joined acc (decoded s)
   unfolding accepted_with
   list_after e = rw e
 
@@ -33,7 +33,7 @@ none_next acc = record { answers_are = refl; list_is = refl }
 module _ (s : List ℕ) (r : Decoded) (acc : List Decoded) (ss : List (List ℕ)) {rest : List Answered} {after : List Decoded} where
   pub accepted_next : {lines : List ℤ} → decoded s ≡ r → refusal_of (asked (facts_of_list acc) r) r ≡ 0
       → list_below party_count (λ p. of_post (pos 0) (λ n. reckoned_line acc (n - 1) p) r) ≡ lines
-      → Fed (r ∷ acc) ss rest after → Fed acc (s ∷ ss) (answer 0 lines ∷ rest) after
+      → Fed (joined acc r) ss rest after → Fed acc (s ∷ ss) (answer 0 lines ∷ rest) after
   unfolding answers_of accepted_of line_for list_below
   accepted_next d e l more =
       let number : number_for acc s ≡ 0 = number_of (facts_of_list acc) s r 0 d e in

@@ -1,13 +1,15 @@
 -- Strings among which no Owner is leave every unit without an owner.
-use Rattle.std.proofs.Common.{◌≡◌, refl, ap, ◌∙◌, Bool, true, false, cond, List, [], ◌∷◌, ℕ, eqb}
+use Rattle.std.proofs.Common.{◌≡◌, refl, ap, ◌∙◌, Bool, true, false, cond, List, [], ◌∷◌, ℕ, eqb, Ok}
 use mathlib.Core.List.{Memᴰ}
 use Rattle.records.specs.declared.format.OwnerRecord.{OwnerRecord}
+use Rattle.records.specs.declared.format.Record.TheVariants.{Hour}
 use Rattle.records.specs.Format.{owner_format}
 use Rattle.records.specs.Kinds.{Decoded, is_of}
 use Rattle.records.specs.Decoded.{decoded}
 use Rattle.rules.proofs.Owners.{unowned}
-use Rattle.promise.specs.Reckoning.{latest_owner, owner_of, facts_of_list, number_for, accepted_with, accepted_of}
+use Rattle.promise.specs.Reckoning.{latest_owner, owner_of, facts_of_list, number_for, joined, accepted_with, accepted_of}
 use Rattle.promise.specs.Laws.{facts_after, WithoutOwners}
+use Rattle.promise.proofs.OneMore.{joined_keeps}
 
 -- with one record more that is none, and with one string more
 other_owner : (acc : List Decoded) (r : Decoded) (u : ℕ) → is_of owner_format r ≡ false → latest_owner (r ∷ acc) u ≡ latest_owner acc u
@@ -18,8 +20,8 @@ unowned_next : (acc : List Decoded) (s : List ℕ) → is_of owner_format (decod
 unfolding accepted_with
 unowned_next acc s other u none = go (eqb (number_for acc s) 0)
   where
-    go : (t : Bool) → owner_of (cond t (decoded s ∷ acc) acc) u ≡ 0
-    go true = ap (λ (o : OwnerRecord). o.party) (other_owner acc (decoded s) u other) ∙ none
+    go : (t : Bool) → owner_of (cond t (joined acc (decoded s)) acc) u ≡ 0
+    go true = ap (λ (o : OwnerRecord). o.party) (joined_keeps (λ l. latest_owner l u) (λ h l. other_owner l (Ok (Hour h)) u refl) acc (decoded s) (λ q. other_owner acc (decoded s) u other)) ∙ none
     go false = none
 
 unowned_from : (acc : List Decoded) → ((u : ℕ) → owner_of acc u ≡ 0) → (ss : List (List ℕ))

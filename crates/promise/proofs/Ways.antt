@@ -29,16 +29,15 @@ use Rattle.rules.specs.Refusal.{days_fit, derating_fits, hour_fits, numbers_fit,
 use Rattle.rules.specs.Hours.{hour_index, is_peak, service_hour, outage_hour, derated_watts}
 use Rattle.rules.specs.Facts.{Facts, no_area, no_unit, no_commitment}
 use Rattle.rules.specs.Rules.{index, asked}
-use Rattle.rules.specs.Dues.{due_in}
 use Rattle.promise.specs.Reckoning.{no_load, year_of, latest_area, unit_of, latest_commitment, latest_load, latest_obligation, latest_owner, accepted_hours, sum_over, last_index, facts_of_list}
 use Rattle.promise.specs.Reckoning.{counts_of, reckoned_due, reckoned_paid, reckoned_line}
 use Rattle.promise.specs.Standing.{SameStanding}
 use Rattle.promise.specs.Figures.{year, area, unit, commitment, load, post, answer, no_lines, of_three, before_loads_answers}
 use Rattle.promise.specs.TwoWays.{derated, one_way, another_way, one_way_lines, early_lines, later_lines, TwoWays}
 use Rattle.promise.proofs.Runs.{Fed, none_next, accepted_next, refused_next}
-use Rattle.promise.proofs.Written.{amount_of, dues_are, post_accepted, lines_are}
-use Rattle.promise.proofs.Example.{area₁, unit₁, unit₂, commitment₁, commitment₂, load₅, load₇, unloaded, loaded, example, added, nets_are, obligations, obligations_listed}
-use Rattle.promise.proofs.AllFigures.{before_loads_run}
+use Rattle.promise.proofs.Written.{amount_of, lines_are}
+use Rattle.promise.proofs.Example.{area₁, unit₁, unit₂, commitment₁, commitment₂, load₅, load₇, loaded, example, added, obligations, dues_with, number_with}
+use Rattle.promise.proofs.AllFigures.{loads_run}
 
 abbrev hour₁ : HourRecord
 hour₁ = record { unit = 1; month = 7; day = 6; hour = 15; kind = 1; derating = 450000 }
@@ -171,12 +170,10 @@ money = (refl, refl, refl, refl)
 
 module _ (acc : List Decoded) (price : ℕ) (f : facts_of_list acc ≡ with_hour price) where
   dues_of : {dues : List ℤ} → dues_at price ≡ dues → (p : ℕ) → p < party_count → reckoned_due acc 0 p ≡ amount_of dues p
-  unfolding reckoned_due
-  dues_of e p h =
-      ap (λ (F : Facts). due_in F 0 p) f ∙ dues_are (with_hour price) refl refl nets (nets_are price (latest_obligation loaded) counts last (nets_listed price)) obligations_listed e p h
+  dues_of = dues_with acc price counts last f nets (nets_listed price)
 
   number_of : undistributed_at price ≡ false → refusal_of (asked (facts_of_list acc) (Ok (Post 1))) (Ok (Post 1)) ≡ 0
-  number_of e = rw f (post_accepted (with_hour price) refl refl nets (nets_are price (latest_obligation loaded) counts last (nets_listed price)) obligations_listed e)
+  number_of = number_with acc price counts last f nets (nets_listed price)
 
 lines_first : list_below party_count (reckoned_line first 0) ≡ one_way_lines
 unfolding list_below reckoned_paid line
@@ -196,11 +193,9 @@ unfolding number_at is_broken of_length framed decoded within index derating_fit
     calendar_year is_delivery_date delivery_day hour_index multiples_below days_before_year day_of_year day_number sum_below
     year_of latest_area unit_of accepted_hours last_index facts_of_list
 one_fed =
-    before_loads_run _
-    (accepted_next (load 1 5 500000) (Ok (Load load₅)) unloaded _ refl refl refl
-    (accepted_next (load 1 7 600000) (Ok (Load load₇)) (Ok (Load load₅) ∷ unloaded) _ refl refl refl
+    loads_run _
     (accepted_next derated (Ok (Hour hour₁)) loaded _ refl refl refl
-    (accepted_next (post 1) (Ok (Post 1)) first [] refl (number_of first 9000 facts_first money.1) lines_first (none_next (Ok (Post 1) ∷ first))))))
+    (accepted_next (post 1) (Ok (Post 1)) first [] refl (number_of first 9000 facts_first money.1) lines_first (none_next (Ok (Post 1) ∷ first))))
 
 another_fed : Fed [] another_way
     (before_loads_answers ++ (answer 0 no_lines ∷ answer 0 no_lines ∷ answer 10 no_lines ∷ answer 0 no_lines ∷ answer 0 no_lines ∷ answer 0 early_lines

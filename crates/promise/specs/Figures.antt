@@ -1,21 +1,14 @@
 -- The table of figures, a to j of document 01 ("Figures to be proved in a table") and those of 02, Item 1: the rows of the
 -- crates below, and those of j.
-use Rattle.std.specs.Prelude.{◌≡◌, List, [], ◌∷◌, ◌++◌, map, ℕ, zero, suc, ◌/◌, ◌%◌, ℤ, pos, neg_ℤ, length}
+use Rattle.std.specs.Prelude.{◌≡◌, List, [], ◌∷◌, ◌++◌, map, ℕ, ℤ, pos, neg_ℤ}
 use Rattle.numbers.specs.Figures.{SplitRow, SplitGiven, split_rows}
 use Rattle.calendar.specs.Figures.{CalendarRow, CalendarGiven, calendar_rows}
 use Rattle.capacity.specs.Figures.{CapacityRow, CapacityGiven, capacity_rows}
 use Rattle.money.specs.Figures.{CreditRow, CreditGiven, credit_rows}
+use Rattle.records.specs.Written.{bytes, tagged, written_hour}
 use Rattle.promise.specs.Reckoning.{Answered, answers_of}
 
--- A number in so many bytes, high byte first, and a record: one tag byte, a two-byte length, then the value.
--- They say how a string is written; records' Format, on its own, how it is read.
-abbrev pub bytes : ℕ → ℕ → List ℕ
-bytes zero n = []
-bytes (suc width) n = bytes width (n / 256) ++ (n % 256 ∷ [])
-
-abbrev pub tagged : ℕ → List ℕ → List ℕ
-tagged tag value = tag ∷ bytes 2 (length value) ++ value
-
+-- the strings of the figures
 abbrev pub year : ℕ → List ℕ
 year y = tagged 1 (bytes 2 y)
 
@@ -31,6 +24,10 @@ unit u a i e f g class = tagged 3 (u ∷ a ∷ bytes 4 i ++ bytes 4 e ++ bytes 4
 abbrev pub commitment : ℕ → ℕ → ℕ → ℕ → ℕ → ℕ → List ℕ
 commitment n u p first last watts = tagged 4 (n ∷ u ∷ p ∷ bytes 2 first ++ bytes 2 last ++ bytes 4 watts)
 
+-- unit; month, day, hour ending; kind; derating
+abbrev pub hour : ℕ → ℕ → ℕ → ℕ → ℕ → ℕ → List ℕ
+hour u month d ending kind derating = written_hour (record { unit = u; month = month; day = d; hour = ending; kind = kind; derating = derating })
+
 -- area; party; obligation
 abbrev pub load : ℕ → ℕ → ℕ → List ℕ
 load a p obligation = tagged 6 (a ∷ p ∷ bytes 4 obligation)
@@ -41,6 +38,10 @@ post a = tagged 7 (a ∷ [])
 -- unit; party
 abbrev pub owner : ℕ → ℕ → List ℕ
 owner u p = tagged 8 (u ∷ p ∷ [])
+
+-- unit; month, day; three bytes of marks: the hours ending 17 to 24, 9 to 16 and 1 to 8
+abbrev pub day : ℕ → ℕ → ℕ → ℕ → ℕ → ℕ → List ℕ
+day u month d a b c = tagged 9 (u ∷ month ∷ d ∷ a ∷ b ∷ c ∷ [])
 
 -- one figure as the paper states it
 pub data Figure : Type 0 where

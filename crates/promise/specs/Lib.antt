@@ -5,4 +5,5 @@ pub mod Logs
 pub mod Figures
 pub mod TwoWays
 pub mod ReadySets
+pub mod MarkedDays
 pub mod Laws

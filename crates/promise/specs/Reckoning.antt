@@ -1,8 +1,9 @@
 -- The fresh reckoning. 01, Area money, "Fresh reckoning (demand 3)". It reads the strings and its own list of accepted
 -- records, and nothing of any book. The list is newest first: the paper's end of the list is its head here.
 -- As an argument, area, unit, commitment and party number k of 01 is k − 1 here, as in rules' Facts.
-use Rattle.std.specs.Prelude.{cond, ◌&&◌, List, [], ◌∷◌, ℕ, ◌+◌, ◌-◌, ℤ, pos, eqb}
+use Rattle.std.specs.Prelude.{cond, ◌&&◌, List, [], ◌∷◌, ℕ, zero, suc, ◌+◌, ◌-◌, ℤ, pos, eqb, Ok}
 use Rattle.numbers.specs.Lists.{list_below}
+use Rattle.calendar.specs.Peak.{day_hours}
 use Rattle.capacity.specs.declared.rating.HourCounts.{HourCounts}
 use Rattle.money.specs.Lines.{line}
 use Rattle.records.specs.declared.format.AreaRecord.{AreaRecord}
@@ -11,9 +12,12 @@ use Rattle.records.specs.declared.format.CommitmentRecord.{CommitmentRecord}
 use Rattle.records.specs.declared.format.HourRecord.{HourRecord}
 use Rattle.records.specs.declared.format.LoadRecord.{LoadRecord}
 use Rattle.records.specs.declared.format.OwnerRecord.{OwnerRecord}
+use Rattle.records.specs.declared.format.DayRecord.{DayRecord}
+use Rattle.records.specs.declared.format.Record.TheVariants.{Hour}
 use Rattle.records.specs.Format.{party_count}
 use Rattle.records.specs.Decoded.{decoded}
-use Rattle.records.specs.Kinds.{Decoded, of_year, of_area, of_unit, of_commitment, of_hour, of_load, of_post, of_owner}
+use Rattle.records.specs.Kinds.{Decoded, of_year, of_area, of_unit, of_commitment, of_hour, of_load, of_post, of_owner, of_day}
+use Rattle.rules.specs.Days.{day_hour}
 use Rattle.rules.specs.Hours.{hour_index, service_hour, outage_hour, derated_watts}
 use Rattle.rules.specs.Facts.{Facts, no_area, no_unit, no_commitment}
 use Rattle.rules.specs.Dues.{due_in}
@@ -103,9 +107,18 @@ facts_of_list acc = record {
 abbrev pub number_for : List Decoded → List ℕ → ℕ
 number_for acc s = refusal (facts_of_list acc) s
 
+-- 02, Item 3: the first n of the 24 hours of a Day, one after another
+unfoldable pub with_day_hours : List Decoded → DayRecord → ℕ → List Decoded
+with_day_hours acc d zero = acc
+with_day_hours acc d (suc n) = Ok (Hour (day_hour d (n + 1))) ∷ with_day_hours acc d n
+
+-- 01, Fresh reckoning: the record joins the list; 02, Item 3: the 24 hours of a Day "stand in its place"
+abbrev pub joined : List Decoded → Decoded → List Decoded
+joined acc r = of_day (r ∷ acc) (λ d. with_day_hours acc d day_hours) r
+
 -- 01, Fresh reckoning: if a row fits, the list stays as it is; if none fits, the record joins it
 unfoldable pub accepted_with : List Decoded → List ℕ → List Decoded
-accepted_with acc s = cond (eqb (number_for acc s) 0) (decoded s ∷ acc) acc
+accepted_with acc s = cond (eqb (number_for acc s) 0) (joined acc (decoded s)) acc
 
 -- 01, Fresh reckoning: a party's due in an area is what the rules give from the standing facts and SH, FOH and D
 unfoldable pub reckoned_due : List Decoded → ℕ → ℕ → ℤ

@@ -1,5 +1,6 @@
 -- Standing facts. 01, Records: "the year, each unit's Unit record, the latest accepted record of each key, and the set of
--- accepted Hour records of each unit". 02, Item 2: owners join them. They are read from lists of accepted records.
+-- accepted Hour records of each unit". 02, Item 2: owners join them. 02, Item 3: the 24 hours of an accepted Day are among the Hour
+-- records. They are read from lists of accepted records.
 use Rattle.std.specs.Prelude.{◌≡◌, ◌↔◌, List, ℕ}
 use mathlib.Core.List.{Memᴰ}
 use Rattle.records.specs.declared.format.HourRecord.{HourRecord}

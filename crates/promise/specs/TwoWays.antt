@@ -4,11 +4,7 @@
 use Rattle.std.specs.Prelude.{◌≡◌, List, [], ◌∷◌, ◌++◌, ℕ, ℤ, pos, neg_ℤ}
 use Rattle.promise.specs.Reckoning.{answers_of, accepted_of}
 use Rattle.promise.specs.Standing.{SameStanding}
-use Rattle.promise.specs.Figures.{bytes, tagged, year, area, unit, commitment, load, post, answer, no_lines, of_three, before_loads, before_loads_answers}
-
--- unit; month, day, hour ending; kind; derating
-abbrev pub hour : ℕ → ℕ → ℕ → ℕ → ℕ → ℕ → List ℕ
-hour u month day ending kind derating = tagged 5 (u ∷ month ∷ day ∷ ending ∷ kind ∷ bytes 4 derating)
+use Rattle.promise.specs.Figures.{hour, year, area, unit, commitment, load, post, answer, no_lines, of_three, before_loads, before_loads_answers}
 
 -- Tuesday 6 July 2010, hour ending 15: unit 1 in service, with a forced derating of 450,000 W
 abbrev pub derated : List ℕ

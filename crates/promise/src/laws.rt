@@ -1,10 +1,11 @@
 // Functions with empty bodies whose contracts are theorems: the gate asks for their proofs by name.
 ghost use Rattle.numbers.specs.Rows.{EachGiven};
 ghost use Rattle.promise.specs.Promise.{Promise};
-ghost use Rattle.promise.specs.Laws.{ReckoningLaws, LinesAddUp, SameAnswers, SameFacts, PartsAddUp, EveryLog, RunLaws, SameTotals, WithoutOwners};
+ghost use Rattle.promise.specs.Laws.{ReckoningLaws, LinesAddUp, SameAnswers, SameFacts, PartsAddUp, EveryLog, RunLaws, SameTotals, WithoutOwners, EitherWay};
 ghost use Rattle.promise.specs.Figures.{FigureGiven, figures};
 ghost use Rattle.promise.specs.TwoWays.{TwoWays};
 ghost use Rattle.promise.specs.ReadySets.{ReadySets};
+ghost use Rattle.promise.specs.MarkedDays.{MarkedDays};
 
 // Figures a to j, and those of 02, Item 1.
 pub fn figures()
@@ -24,6 +25,11 @@ pub fn reckoning()
 // What `order` of the promise speaks of occurs, with an Hour, replaced records and an early Post.
 pub fn two_ways()
     ensures { TwoWays }
+{}
+
+// The marks of Days in their peak hours are SH (02, Item 3): a worked example.
+pub fn marked_days()
+    ensures { MarkedDays }
 {}
 
 // Sets that are kept ready lower their owner's charge (02, Item 2): a worked example.
@@ -64,6 +70,11 @@ pub fn order_by_watts()
 // A book without Owner records is settled as in paper 01.
 pub fn without_owners()
     ensures { WithoutOwners }
+{}
+
+// Balances do not depend on which way the hours came, as Days or as Hours (02, Item 3).
+pub fn either_way()
+    ensures { EitherWay }
 {}
 
 // Any list of strings of bytes, as many as slices hold, can be handed to `log::run`.

@@ -2,16 +2,13 @@
 use Rattle.std.proofs.Common.{◌≡◌, refl, sym, ap, subst, ◌∙◌, Bool, true, false, cond, not, ◌||◌, List, ◌++◌, ℕ, ◌+◌, ◌≤◌, ◌<◌, arith, eqb, ltb, length}
 use Rattle.std.proofs.Common.{take, get_or, length-take, length-take-le, get_or-take, ltb-true, ltb-false, lt-ltb, le-ltb, eq-eqb, ne_eqb}
 use Rattle.std.proofs.Math.ListN.{length-append}
-use native.Mathlib.Nat.{min-le_right}
 use lib.ListN.{get_or-append}
 use Rattle.records.specs.declared.stream.Next.{Next}
 use Rattle.records.specs.declared.stream.Next.TheVariants.{Whole, Broken, Partial}
 use Rattle.records.specs.Format.{number_at, formats}
-use Rattle.records.specs.Decoded.{length_of, is_broken, decoded}
-use Rattle.records.specs.Kinds.{of_hour}
+use Rattle.records.specs.Decoded.{length_of, is_broken}
 use Rattle.records.specs.Stream.{next_record}
 use Rattle.records.specs.Laws.{adjoining}
-use Rattle.records.proofs.Frames.{hour_frame}
 
 pub fields_adjoin : adjoining formats ≡ true
 fields_adjoin = refl
@@ -135,12 +132,3 @@ broken_more s t e = go (subst (Told s) e (told s))
         let same = stated_at_first s t begun in
         let more = length-append s t in
         simp (le-ltb (length (s ++ t)) 3 (omega arith), same, lt-ltb 32 (length_of s) above)
-
--- an Hour at the start of a stream is its next record
-pub hour_next : (s : List ℕ) → of_hour false (λ h. true) (decoded (take 12 s)) ≡ true → next_record s ≡ Whole 12
-unfolding next_record
-hour_next s e =
-    let frame = hour_frame (take 12 s) e in
-    let there : 12 ≤ length s = omega (arith, sym frame.0 ∙ length-take 12 s, min-le_right 12 (length s)) in
-    let stated : length_of s ≡ 9 = sym (stated_by_front 12 s (omega arith)) ∙ frame.1 in
-    simp (le-ltb (length s) 3 (omega arith), stated, le-ltb (length s) 12 there)

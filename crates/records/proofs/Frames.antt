@@ -1,11 +1,16 @@
--- What the frame of a string says of its length.
-use Rattle.std.proofs.Common.{◌≡◌, refl, sym, ◌∙◌, Bool, true, false, cond, not, ◌||◌, true≢false, List, ℕ, ◌+◌, arith, eqb, ltb, length, Err}
+-- What the frame of a string says of it.
+use Rattle.std.proofs.Common.{◌≡◌, refl, ap, ◌∙◌, Bool, true, false, cond, not, ◌||◌, true≢false, List, ℕ, ◌+◌, ◌<◌, arith, T, eqb, ltb, length, Ok, Err}
 use Rattle.std.proofs.Common.{eqb-true}
-use borrow.Author.Tests.{eqb-false, not-false}
-use Rattle.records.specs.declared.format.HourRecord.{HourRecord}
+use borrow.Author.Tests.{not-false}
+use Rattle.numbers.specs.Lists.{element}
+use Rattle.records.specs.declared.format.Record.{Record}
+use Rattle.records.specs.declared.format.Record.TheVariants as records
+use Rattle.records.specs.declared.format.Record.TheVariants.{Year, Area, Commitment, Hour, Load, Post, Owner, Day}
 use Rattle.records.specs.declared.format.Fault.TheVariants.{Broken}
-use Rattle.records.specs.Decoded.{tag_of, length_of, is_broken, of_length, framed, decoded}
-use Rattle.records.specs.Kinds.{Decoded, of_hour}
+use Rattle.records.specs.Format.{Format, bytes_of, values_of, year_format, area_format, unit_format, commitment_format, hour_format, load_format, post_format, owner_format, day_format}
+use Rattle.records.specs.Decoded.{tag_of, length_of, is_broken, of_length, of_tag, framed, decoded}
+use Rattle.records.specs.Kinds.{Decoded, format_of, tag_of_record, numbers_of, area_from, unit_from, commitment_from, hour_from, load_from, owner_from, day_from, is_of}
+use Rattle.records.proofs.OneKind.{made, listed_tag, is_made}
 
 neither : (a b : Bool) → (a || b) ≡ false → (a ≡ false) × (b ≡ false)
 neither true b q = absurd (true≢false q)
@@ -20,43 +25,49 @@ whole s q =
     (neither (ltb 32 (length_of s)) (not (eqb (length s) (3 + length_of s)))
     (neither (ltb (length s) 3) (ltb 32 (length_of s) || not (eqb (length s) (3 + length_of s))) q).1).1)
 
--- whatever is made of an Hour record, and `other` of all the rest
-module _ {A : Type 0} (other : A) (given : HourRecord → A) where
-  of_choice : (t : Bool) (a b : Decoded) → of_hour other given (cond t a b) ≡ cond t (of_hour other given a) (of_hour other given b)
-  of_choice true a b = refl
-  of_choice false a b = refl
+-- tag and length of a record are those of the string that it was decoded from
+record FrameOf (s : List ℕ) (r : Decoded) : Type 0 where
+  tag : tag_of s ≡ tag_of_record r
+  size : length_of s ≡ (format_of r).size
 
-  either_same : (t : Bool) → cond t other other ≡ other
-  either_same true = refl
-  either_same false = refl
+module _ (s : List ℕ) where
+  -- by the format that has the tag, or by the formats after it
+  link : (f : Format) (make : List ℕ → Record) {other : Decoded} → format_of (Ok (make (values_of f s))) ≡ f
+      → (0 < tag_of_record other → FrameOf s other) → 0 < tag_of_record (of_tag f s make other) → FrameOf s (of_tag f s make other)
+  unfolding of_length
+  link f make {other} same after = go (eqb (tag_of s) f.tag) refl (eqb (length_of s) f.size) refl
+    where
+      go : (t : Bool) → eqb (tag_of s) f.tag ≡ t → (l : Bool) → eqb (length_of s) f.size ≡ l
+          → 0 < tag_of_record (of_tag f s make other) → FrameOf s (of_tag f s make other)
+      go true q true p h = rw (q, p) (record { tag = eqb-true _ _ q ∙ rw same; size = eqb-true _ _ p ∙ rw same })
+      go true q false p h = absurd (omega (arith, rw (q, p) at h))
+      go false q l p h = rw q (after (rw q at h))
 
-  module _ (s : List ℕ) where
-    other_tag : eqb (tag_of s) 5 ≡ false → of_hour other given (framed s) ≡ other
-    unfolding framed of_length
-    other_tag q = simp (q, of_choice, either_same)
+  framed_frame : 0 < tag_of_record (framed s) → FrameOf s (framed s)
+  unfolding framed
+  framed_frame =
+      link year_format (λ l. Year (element l 0)) refl
+      (link area_format (λ l. Area (area_from l)) refl
+      (link unit_format (λ l. records.Unit (unit_from l)) refl
+      (link commitment_format (λ l. Commitment (commitment_from l)) refl
+      (link hour_format (λ l. Hour (hour_from l)) refl
+      (link load_format (λ l. Load (load_from l)) refl
+      (link post_format (λ l. Post (element l 0)) refl
+      (link owner_format (λ l. Owner (owner_from l)) refl
+      (link day_format (λ l. Day (day_from l)) refl (λ h. absurd (omega arith))))))))))
 
-    other_length : eqb (tag_of s) 5 ≡ true → eqb (length_of s) 9 ≡ false → of_hour other given (framed s) ≡ other
-    unfolding framed of_length
-    other_length tag stated = simp (eqb-true (tag_of s) 5 tag, stated)
-
-    pub no_hour_lem : (length s ≡ 12 → tag_of s ≡ 5 → length_of s ≡ 9 → ⊥) → of_hour other given (decoded s) ≡ other
-    unfolding decoded
-    no_hour_lem ne = go (is_broken s) refl (eqb (tag_of s) 5) refl (eqb (length_of s) 9) refl
-      where
-        go : (b : Bool) → is_broken s ≡ b → (t : Bool) → eqb (tag_of s) 5 ≡ t → (l : Bool) → eqb (length_of s) 9 ≡ l
-            → of_hour other given (cond b (Err Broken) (framed s)) ≡ other
-        go true qb t qt l ql = refl
-        go false qb false qt l ql = other_tag qt
-        go false qb true qt false ql = other_length qt ql
-        go false qb true qt true ql =
-            let stated : length_of s ≡ 9 = eqb-true (length_of s) 9 ql in
-            absurd (ne (omega (arith, whole s qb, stated)) (eqb-true (tag_of s) 5 qt) stated)
-
--- the other way round
-pub hour_frame : (s : List ℕ) → of_hour false (λ h. true) (decoded s) ≡ true → (length s ≡ 12) × (length_of s ≡ 9)
-hour_frame s e = go (eqb (length s) 12) refl (eqb (length_of s) 9) refl
-  where
-    go : (b : Bool) → eqb (length s) 12 ≡ b → (l : Bool) → eqb (length_of s) 9 ≡ l → (length s ≡ 12) × (length_of s ≡ 9)
-    go true qb true ql = (eqb-true (length s) 12 qb, eqb-true (length_of s) 9 ql)
-    go false qb l ql = absurd (true≢false (sym e ∙ no_hour_lem false (λ h. true) s (λ bytes tag stated. eqb-false (length s) 12 qb bytes)))
-    go true qb false ql = absurd (true≢false (sym e ∙ no_hour_lem false (λ h. true) s (λ bytes tag stated. eqb-false (length_of s) 9 ql stated)))
+  -- of a string that is a record of one kind
+  pub frame_of : (f : Format) → T (ltb 0 f.tag) → ((l : List ℕ) → format_of (made f.tag l) ≡ f) → is_of f (decoded s) ≡ true
+      → (length s ≡ bytes_of f) × (tag_of s ≡ f.tag) × (length_of s ≡ f.size)
+  unfolding decoded
+  frame_of f listed kind e = go (is_broken s) refl e
+    where
+      go : (b : Bool) → is_broken s ≡ b → is_of f (cond b (Err Broken) (framed s)) ≡ true
+          → (length s ≡ bytes_of f) × (tag_of s ≡ f.tag) × (length_of s ≡ f.size)
+      go true q of = absurd (omega (arith, listed_tag f listed, eqb-true 0 f.tag of))
+      go false q of =
+          let tag : tag_of_record (framed s) ≡ f.tag = eqb-true _ _ of in
+          let frame = framed_frame (rw tag (listed_tag f listed)) in
+          let same : format_of (framed s) ≡ f = ap format_of (is_made f (framed s) listed of) ∙ kind (numbers_of (framed s)) in
+          let size : length_of s ≡ f.size = frame.size ∙ ap (λ (g : Format). g.size) same in
+          (whole s q ∙ rw size, frame.tag ∙ tag, size)

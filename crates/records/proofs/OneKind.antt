@@ -5,9 +5,9 @@ use types.Run.{OneOf, miss}
 use Rattle.numbers.specs.Lists.{element}
 use Rattle.records.specs.declared.format.Fault.TheVariants.{Broken}
 use Rattle.records.specs.declared.format.Record.TheVariants as records
-use Rattle.records.specs.declared.format.Record.TheVariants.{Year, Area, Commitment, Hour, Load, Post, Owner}
+use Rattle.records.specs.declared.format.Record.TheVariants.{Year, Area, Commitment, Hour, Load, Post, Owner, Day}
 use Rattle.records.specs.Format.{Format, formats}
-use Rattle.records.specs.Kinds.{Decoded, tag_of_record, numbers_of, area_from, unit_from, commitment_from, hour_from, load_from, owner_from, is_of}
+use Rattle.records.specs.Kinds.{Decoded, tag_of_record, numbers_of, area_from, unit_from, commitment_from, hour_from, load_from, owner_from, day_from, is_of}
 
 abbrev pub made : ℕ → List ℕ → Decoded
 made t l =
@@ -19,7 +19,8 @@ made t l =
     (cond (eqb t 6) (Ok (Load (load_from l)))
     (cond (eqb t 7) (Ok (Post (element l 0)))
     (cond (eqb t 8) (Ok (Owner (owner_from l)))
-    (Err Broken))))))))
+    (cond (eqb t 9) (Ok (Day (day_from l)))
+    (Err Broken)))))))))
 
 rebuilt : (r : Decoded) → 0 < tag_of_record r → r ≡ made (tag_of_record r) (numbers_of r)
 rebuilt (Err f) h = absurd (omega arith)
@@ -31,15 +32,20 @@ rebuilt (Ok (Hour k)) h = refl
 rebuilt (Ok (Load l)) h = refl
 rebuilt (Ok (Post p)) h = refl
 rebuilt (Ok (Owner o)) h = refl
+rebuilt (Ok (Day d)) h = refl
 
-pub is_made : (f : Format) (r : Decoded) → T (ltb 0 f.tag) → is_of f r ≡ true → r ≡ made f.tag (numbers_of r)
-is_made f r listed q =
-    let e : tag_of_record r ≡ f.tag = eqb-true _ _ q in
-    rebuilt r (rw e (ltb-true 0 f.tag (is_true (ltb 0 f.tag) listed))) ∙ ap (λ (t : ℕ). made t (numbers_of r)) e
+-- what the frame refuses has no listed tag
+pub listed_tag : (f : Format) → T (ltb 0 f.tag) → 0 < f.tag
+listed_tag f listed = ltb-true 0 f.tag (is_true (ltb 0 f.tag) listed)
   where
     is_true : (t : Bool) → T t → t ≡ true
     is_true true h = refl
     is_true false h = absurd h
+
+pub is_made : (f : Format) (r : Decoded) → T (ltb 0 f.tag) → is_of f r ≡ true → r ≡ made f.tag (numbers_of r)
+is_made f r listed q =
+    let e : tag_of_record r ≡ f.tag = eqb-true _ _ q in
+    rebuilt r (rw e (listed_tag f listed)) ∙ ap (λ (t : ℕ). made t (numbers_of r)) e
 
 -- the tags of what is of none of these formats: of other formats, and 0 of what the frame refuses
 abbrev pub others : List Format → List ℕ

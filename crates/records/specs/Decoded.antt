@@ -3,10 +3,11 @@ use Rattle.std.specs.Prelude.{Bool, cond, not, ◌||◌, List, ℕ, ◌+◌, eqb
 use Rattle.numbers.specs.Lists.{element}
 use Rattle.records.specs.declared.format.Fault.TheVariants.{Broken, UnknownTag, WrongLength}
 use Rattle.records.specs.declared.format.Record.TheVariants as records
-use Rattle.records.specs.declared.format.Record.TheVariants.{Year, Area, Commitment, Hour, Load, Post, Owner}
-use Rattle.records.specs.Format.{Format, number_at, values_of, year_format, area_format, unit_format, commitment_format, hour_format, load_format, post_format, owner_format}
-use Rattle.records.specs.Kinds.{Decoded, area_from, unit_from, commitment_from, hour_from, load_from, owner_from, of_hour}
+use Rattle.records.specs.declared.format.Record.TheVariants.{Year, Area, Commitment, Hour, Load, Post, Owner, Day}
+use Rattle.records.specs.Format.{Format, number_at, values_of, year_format, area_format, unit_format, commitment_format, hour_format, load_format, post_format, owner_format, day_format}
+use Rattle.records.specs.Kinds.{Decoded, area_from, unit_from, commitment_from, hour_from, load_from, owner_from, day_from, of_hour, of_day}
 use Rattle.records.specs.declared.format.HourRecord.{HourRecord}
+use Rattle.records.specs.declared.format.DayRecord.{DayRecord}
 use Rattle.records.specs.declared.format.Record.{Record}
 
 -- the tag and the length that a string states
@@ -39,11 +40,15 @@ framed s =
     (of_tag load_format s (λ l. Load (load_from l))
     (of_tag post_format s (λ l. Post (element l 0))
     (of_tag owner_format s (λ l. Owner (owner_from l))
-    (Err UnknownTag))))))))
+    (of_tag day_format s (λ l. Day (day_from l))
+    (Err UnknownTag)))))))))
 
 unfoldable pub decoded : List ℕ → Decoded
 decoded s = cond (is_broken s) (Err Broken) (framed s)
 
--- the Hour record that a string is, if it is one
+-- the Hour record that a string is, if it is one; so the Day record
 abbrev pub hour_of : List ℕ → Option HourRecord
 hour_of s = of_hour None Some (decoded s)
+
+abbrev pub day_of : List ℕ → Option DayRecord
+day_of s = of_day None Some (decoded s)

@@ -1,5 +1,5 @@
 -- The record format: each tag and its length, and each field's offset in the value, its width in bytes and its range.
--- 01, Records, and 02, Item 2. A record is one tag byte, a two-byte length, then the value; numbers are unsigned, high byte first.
+-- 01, Records, and 02, Items 2 and 3. A record is one tag byte, a two-byte length, then the value; numbers are unsigned, high byte first.
 use Rattle.std.specs.Prelude.{List, [], ◌∷◌, map, Bool, true, false, ◌&&◌, ℕ, zero, suc, ◌+◌, ◌*◌, get_or}
 use Rattle.numbers.specs.Range.{within}
 use Rattle.capacity.specs.Shortfall.{installed_most, rate_most, commitment_most}
@@ -36,6 +36,10 @@ field offset width least most = record { offset = offset; width = width; holds =
 -- a field that has no range but a rule of the whole record (`own_rule` of Refusal)
 abbrev pub ruled_at : ℕ → ℕ → Field
 ruled_at o width = record { offset = o; width = width; holds = λ n. true }
+
+-- the same where no rule of the record asks it: every number is in range
+abbrev pub free_at : ℕ → ℕ → Field
+free_at = ruled_at
 
 abbrev pub format : ℕ → ℕ → List Field → Format
 format tag size fields = record { tag = tag; size = size; fields = fields }
@@ -89,9 +93,13 @@ post_format = format 7 1 (area_at 0 ∷ [])
 abbrev pub owner_format : Format
 owner_format = format 8 2 (unit_at 0 ∷ party_at 1 ∷ [])
 
+-- 02, Item 3, 0x09 Day: unit; month, day; three bytes of marks
+abbrev pub day_format : Format
+day_format = format 9 6 (unit_at 0 ∷ ruled_at 1 1 ∷ ruled_at 2 1 ∷ free_at 3 3 ∷ [])
+
 abbrev pub formats : List Format
 formats =
-    year_format ∷ area_format ∷ unit_format ∷ commitment_format ∷ hour_format ∷ load_format ∷ post_format ∷ owner_format ∷ []
+    year_format ∷ area_format ∷ unit_format ∷ commitment_format ∷ hour_format ∷ load_format ∷ post_format ∷ owner_format ∷ day_format ∷ []
 
 -- the number of so many bytes of a string, from one on, high byte first
 unfoldable pub number_at : ℕ → List ℕ → ℕ → ℕ

@@ -9,12 +9,13 @@ use Rattle.records.specs.declared.format.CommitmentRecord.{CommitmentRecord}
 use Rattle.records.specs.declared.format.HourRecord.{HourRecord}
 use Rattle.records.specs.declared.format.LoadRecord.{LoadRecord}
 use Rattle.records.specs.declared.format.OwnerRecord.{OwnerRecord}
+use Rattle.records.specs.declared.format.DayRecord.{DayRecord}
 use Rattle.records.specs.declared.format.Fault.{Fault}
 use Rattle.records.specs.declared.format.Fault.TheVariants.{Broken, UnknownTag, WrongLength}
 use Rattle.records.specs.declared.format.Record.{Record}
 use Rattle.records.specs.declared.format.Record.TheVariants as records
-use Rattle.records.specs.declared.format.Record.TheVariants.{Year, Area, Commitment, Hour, Load, Post, Owner}
-use Rattle.records.specs.Format.{Format, format, year_format, area_format, unit_format, commitment_format, hour_format, load_format, post_format, owner_format}
+use Rattle.records.specs.declared.format.Record.TheVariants.{Year, Area, Commitment, Hour, Load, Post, Owner, Day}
+use Rattle.records.specs.Format.{Format, format, year_format, area_format, unit_format, commitment_format, hour_format, load_format, post_format, owner_format, day_format}
 
 -- what a string of bytes is decoded to: the record of its kind, or what the frame refuses it for
 abbrev pub Decoded : Type 0
@@ -37,6 +38,7 @@ format_of (Ok (Hour h)) = hour_format
 format_of (Ok (Load l)) = load_format
 format_of (Ok (Post p)) = post_format
 format_of (Ok (Owner o)) = owner_format
+format_of (Ok (Day d)) = day_format
 
 abbrev pub tag_of_record : Decoded → ℕ
 tag_of_record r = (format_of r).tag
@@ -56,6 +58,7 @@ numbers_of (Ok (Hour h)) = h.unit ∷ h.month ∷ h.day ∷ h.hour ∷ h.kind �
 numbers_of (Ok (Load l)) = l.area ∷ l.party ∷ l.obligation ∷ []
 numbers_of (Ok (Post p)) = p ∷ []
 numbers_of (Ok (Owner o)) = o.unit ∷ o.party ∷ []
+numbers_of (Ok (Day d)) = d.unit ∷ d.month ∷ d.day ∷ d.marks ∷ []
 
 -- a record of each kind from its numbers
 abbrev pub area_from : List ℕ → AreaRecord
@@ -79,6 +82,9 @@ load_from l = record { area = element l 0; party = element l 1; obligation = ele
 
 abbrev pub owner_from : List ℕ → OwnerRecord
 owner_from l = record { unit = element l 0; party = element l 1 }
+
+abbrev pub day_from : List ℕ → DayRecord
+day_from l = record { unit = element l 0; month = element l 1; day = element l 2; marks = element l 3 }
 
 -- a record of this format, and of one of these
 abbrev pub is_of : Format → Decoded → Bool
@@ -115,3 +121,6 @@ of_post other given r = of_format post_format other (λ l. given (element l 0)) 
 
 abbrev pub of_owner : {A : Type 0} → A → (OwnerRecord → A) → Decoded → A
 of_owner other given r = of_format owner_format other (λ l. given (owner_from l)) r
+
+abbrev pub of_day : {A : Type 0} → A → (DayRecord → A) → Decoded → A
+of_day other given r = of_format day_format other (λ l. given (day_from l)) r

@@ -1,9 +1,11 @@
 -- The next record at the start of a stream's bytes, and the strings that a stream is cut into. 01, The ledger program, and row 1 of
 -- Places of refusal.
-use Rattle.std.specs.Prelude.{cond, List, [], ◌∷◌, ℕ, zero, suc, ◌+◌, ltb, length, take, drop}
+use Rattle.std.specs.Prelude.{cond, List, [], ◌∷◌, ℕ, zero, suc, ◌+◌, ltb, length, take, drop, Option, None}
 use Rattle.records.specs.declared.stream.Next.{Next}
 use Rattle.records.specs.declared.stream.Next.TheVariants.{Whole, Broken, Partial}
-use Rattle.records.specs.Decoded.{length_of}
+use Rattle.records.specs.declared.format.HourRecord.{HourRecord}
+use Rattle.records.specs.declared.format.DayRecord.{DayRecord}
+use Rattle.records.specs.Decoded.{length_of, hour_of, day_of}
 
 -- a length above 32 is broken for certain, whatever follows; a record is whole once tag, length and value are there
 unfoldable pub next_record : List ℕ → Next
@@ -18,6 +20,13 @@ abbrev pub on_next : {A : Type 0} → A → A → (ℕ → A) → Next → A
 on_next partial broken whole (Whole k) = whole k
 on_next partial broken whole Broken = broken
 on_next partial broken whole Partial = partial
+
+-- the Hour record at the start of a stream, if its next record is one; so the Day record
+unfoldable pub first_hour : List ℕ → Option HourRecord
+first_hour s = on_next None None (λ k. hour_of (take k s)) (next_record s)
+
+unfoldable pub first_day : List ℕ → Option DayRecord
+first_day s = on_next None None (λ k. day_of (take k s)) (next_record s)
 
 -- what the end of a stream leaves is a cut record, if it is anything
 abbrev pub cut_at_end : List ℕ → List (List ℕ)

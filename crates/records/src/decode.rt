@@ -1,26 +1,27 @@
 // From bytes to a record.
 #![tactic(auto, unfolding(crate::specs::Format::number_at, crate::specs::Decoded::is_broken, crate::specs::Decoded::of_length, crate::specs::Decoded::framed, crate::specs::Decoded::decoded))]
 
-ghost use Rattle.std.specs.Prelude.{◌≡◌, ◌≢◌, false, ◌+◌, ◌≤◌, ◌<◌, length, MatchResult, Ok};
+ghost use Rattle.std.specs.Prelude.{◌≡◌, ◌≢◌, false, ◌&&◌, ◌+◌, ◌≤◌, ◌<◌, eqb, leb, length, MatchResult, Ok};
 ghost use Rattle.numbers.specs.Lists.{element};
 ghost use Rattle.records.specs.declared.format.Fault.TheVariants.{WrongLength};
 ghost use Rattle.records.specs.declared.format.Record.TheVariants as records;
-ghost use Rattle.records.specs.declared.format.Record.TheVariants.{Year, Area, Commitment, Hour, Load, Post, Owner};
+ghost use Rattle.records.specs.declared.format.Record.TheVariants.{Year, Area, Commitment, Hour, Load, Post, Owner, Day};
 ghost use Rattle.records.specs.Format.{number_at, bytes_of, values_of, year_format, area_format, unit_format, commitment_format, hour_format, load_format};
-ghost use Rattle.records.specs.Format.{post_format, owner_format};
-ghost use Rattle.records.specs.Kinds.{area_from, unit_from, commitment_from, hour_from, load_from, owner_from};
-ghost use Rattle.records.specs.Decoded.{is_broken, of_length, framed, decoded, hour_of};
+ghost use Rattle.records.specs.Format.{post_format, owner_format, day_format};
+ghost use Rattle.records.specs.Kinds.{area_from, unit_from, commitment_from, hour_from, load_from, owner_from, day_from};
+ghost use Rattle.records.specs.Decoded.{tag_of, length_of, is_broken, of_length, framed, decoded};
+ghost use Rattle.records.specs.Stream.{first_hour, first_day};
 
 use crate::format::{
-    AREA_BYTES, AreaRecord, COMMITMENT_BYTES, CommitmentRecord, Fault, HOUR_BYTES, HourRecord,
-    LOAD_BYTES, LoadRecord, OWNER_BYTES, OwnerRecord, POST_BYTES, Record, UNIT_BYTES, UnitRecord,
-    YEAR_BYTES,
+    AREA_BYTES, AreaRecord, COMMITMENT_BYTES, CommitmentRecord, DAY_BYTES, DayRecord, Fault,
+    HOUR_BYTES, HourRecord, LOAD_BYTES, LoadRecord, OWNER_BYTES, OwnerRecord, POST_BYTES, Record,
+    UNIT_BYTES, UnitRecord, YEAR_BYTES,
 };
 use capacity::InstalledWatts;
 use capacity::rating::Rating;
 
-// The number in the byte, the two bytes or the four bytes from a place on: three functions, as the library has one a width. The room
-// that each asks of the string from there on is a clause of each: a type for it would be longer.
+// The number in the byte, or the two, three or four bytes from a place on: a function each, as the library has one a width; three are
+// read as four behind a 0. The room that each asks of the string from there on is a clause of each: a type for it would be longer.
 fn byte(s: &[u8], from: usize) -> u32
     requires { from < length s.now }
     ensures { (result ≡ number_at 1 s.now from) × (result < 256) }
@@ -33,6 +34,13 @@ pub(crate) fn pair(s: &[u8], from: usize) -> u16
     ensures { result ≡ number_at 2 s.now from }
 {
     u16::from_be_bytes([s[from], s[from + 1]])
+}
+
+fn triple(s: &[u8], from: usize) -> u32
+    requires { from + 3 ≤ length s.now }
+    ensures { result ≡ number_at 3 s.now from }
+{
+    u32::from_be_bytes([0, s[from], s[from + 1], s[from + 2]])
 }
 
 fn quad(s: &[u8], from: usize) -> u32
@@ -67,6 +75,18 @@ fn hour_fields(s: &[u8]) -> HourRecord
         hour: byte(s, 6),
         kind: byte(s, 7),
         derating: quad(s, 8),
+    }
+}
+
+fn day_fields(s: &[u8]) -> DayRecord
+    requires { bytes_of day_format ≤ length s.now }
+    ensures { result ≡ day_from (values_of day_format s.now) }
+{
+    DayRecord {
+        unit: byte(s, 3),
+        month: byte(s, 4),
+        day: byte(s, 5),
+        marks: triple(s, 6),
     }
 }
 
@@ -176,6 +196,13 @@ impl<'a> Framed<'a> {
         }))
     }
 
+    fn day(self) -> Result<Record, Fault>
+        ensures { result ≡ of_length day_format self.entry.bytes.now (λ l. Day (day_from l)) }
+    {
+        self.has_length(DAY_BYTES)?;
+        Ok(Record::Day(day_fields(self.bytes)))
+    }
+
     fn record(self) -> Result<Record, Fault>
         ensures { result ≡ framed self.entry.bytes.now }
     {
@@ -188,6 +215,7 @@ impl<'a> Framed<'a> {
             6 => self.load(),
             7 => self.post(),
             8 => self.owner(),
+            9 => self.day(),
             _ => Err(Fault::UnknownTag),
         }
     }
@@ -203,18 +231,40 @@ pub fn decode(s: &[u8]) -> Result<Record, Fault>
     Framed { bytes: s }.record()
 }
 
-// The tag of an Hour, and the length that it states.
+// The tag of an Hour and of a Day, and the length that each states.
 const HOUR_TAG: u32 = 5;
 
 const HOUR_LENGTH: u16 = 9;
 
-// The Hour record that a string of bytes is, if it is one. `decode` without the other kinds, with which a run of hours misses the aim
-// of speed (docs/DECISIONS.md, 41).
-pub fn hour_of(s: &[u8]) -> Option<HourRecord>
-    ensures { result ≡ hour_of s.now }
+const DAY_TAG: u32 = 9;
+
+const DAY_LENGTH: u16 = 6;
+
+// Whether a whole record of a tag and a length is at the start of a stream.
+#[inline(always)]
+fn begins_with(s: &[u8], tag: u32, stated: u16) -> bool
+    ensures { result ≡ (leb (3 + stated) (length s.now) && (eqb (tag_of s.now) tag && eqb (length_of s.now) stated)) }
 {
-    if s.len() == HOUR_BYTES && byte(s, 0) == HOUR_TAG && pair(s, 1) == HOUR_LENGTH {
+    HEAD_BYTES + usize::from(stated) <= s.len() && byte(s, 0) == tag && pair(s, 1) == stated
+}
+
+// The Hour record at the start of a stream, if its next record is one; so the Day record. `decode` without the other kinds, with which
+// a run of hours is slower (docs/DECISIONS.md, 41).
+pub fn first_hour(s: &[u8]) -> Option<HourRecord>
+    ensures { result ≡ first_hour s.now }
+{
+    if begins_with(s, HOUR_TAG, HOUR_LENGTH) {
         Some(hour_fields(s))
+    } else {
+        None
+    }
+}
+
+pub fn first_day(s: &[u8]) -> Option<DayRecord>
+    ensures { result ≡ first_day s.now }
+{
+    if begins_with(s, DAY_TAG, DAY_LENGTH) {
+        Some(day_fields(s))
     } else {
         None
     }

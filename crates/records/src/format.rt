@@ -18,6 +18,8 @@ pub(crate) const POST_BYTES: usize = 4;
 
 pub(crate) const OWNER_BYTES: usize = 5;
 
+pub const DAY_BYTES: usize = 9;
+
 #[derive(Clone, Copy, Default)]
 pub struct AreaRecord {
     pub area: u32,
@@ -70,6 +72,15 @@ pub struct OwnerRecord {
     pub party: u32,
 }
 
+#[derive(Clone, Copy)]
+pub struct DayRecord {
+    pub unit: u32,
+    pub month: u32,
+    pub day: u32,
+    // 24 bits, of which the lowest is the hour ending 1.
+    pub marks: u32,
+}
+
 // What the frame refuses: rows 1, 2 and 3.
 #[derive(Clone, Copy)]
 pub enum Fault {
@@ -91,4 +102,5 @@ pub enum Record {
     // The area.
     Post(u32),
     Owner(OwnerRecord),
+    Day(DayRecord),
 }

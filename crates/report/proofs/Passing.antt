@@ -1,23 +1,24 @@
--- A pass over a slice, record by record: hours in a row are so many records tried, counted, and nothing is printed.
-use Rattle.std.proofs.Common.{◌≡◌, refl, sym, ap, ◌∙◌, Some, Bool, true, false, List, [], append-nil, ℕ, zero, suc, ◌+◌, ◌*◌, ◌-◌, ◌/◌, ◌≤◌, ◌<◌}
+-- A pass over a slice, record by record: Hours and Days in a row are so many records tried, counted, and nothing is printed.
+use Rattle.std.proofs.Common.{◌≡◌, refl, sym, ap, ◌∙◌, Some, Bool, true, false, ◌||◌, List, [], append-nil, ℕ, zero, suc, ◌+◌, ◌-◌, ◌≤◌, ◌<◌}
 use Rattle.std.proofs.Common.{add-zero, le_refl, add-one, arith, eqb, ltb, length, take, drop, length-drop, take_all, eqb-true, lt-ltb, le-ltb, le-leb, ◌∷◌, ◌^◌}
 use mathlib.Core.Bool.{false≢true}
+use borrow.Author.Tests.{eqb-false}
 use Rattle.std.proofs.lemmas.List.{drop-drop}
 use Rattle.numbers.specs.Lists.{list_below}
 use Rattle.numbers.proofs.Tests.{both_true}
 use Rattle.records.specs.Format.{party_count}
 use Rattle.records.specs.Decoded.{decoded}
-use Rattle.records.specs.Kinds.{Decoded, tag_of_record, of_hour}
+use Rattle.records.specs.Kinds.{Decoded, tag_of_record, is_one_of}
 use Rattle.records.specs.declared.stream.Next.TheVariants.{Whole, Broken, Partial}
 use Rattle.records.specs.Stream.{next_record, on_next}
-use Rattle.records.proofs.FormatLaws.{hour_next, whole_least, whole_not_broken, broken_least}
+use Rattle.records.proofs.FormatLaws.{whole_least, whole_not_broken, broken_least}
 use Rattle.rules.specs.Rules.{refusal}
-use Rattle.rules.proofs.ByKind.{chosen}
 use Rattle.book.specs.declared.Book.{Book}
 use Rattle.book.specs.Books.{facts_of_book}
 use Rattle.book.specs.Entered.{no_lines, lines_of, entered}
-use Rattle.book.specs.Runs.{Run, run, hour_length, hour_bytes, is_accepted_hour, hours_of, first_hours}
-use Rattle.report.specs.Passes.{State, standing, post_area, tried, with_hours, HoursTaken, stopped, room, pass_of, passed, Left, ended, closed, pass_answer, countable, close_answer, finish_answer}
+use Rattle.book.specs.Runs.{is_accepted_as, hour_kinds, next_hours, Run, run, hours_of, first_hours}
+use Rattle.book.proofs.HourRuns.{taken_whole, taken_accepted}
+use Rattle.report.specs.Passes.{State, standing, post_area, tried, after_run, HoursTaken, stopped, room, pass_of, passed, Left, ended, closed, pass_answer, countable, close_answer, finish_answer}
 use Rattle.report.specs.declared.pass.Stop.TheVariants as stop
 use Rattle.report.specs.Printed.{pair_most, party_lines, answer_text}
 
@@ -28,27 +29,36 @@ rest s at = take (length s - at) (drop at s)
 rest_is : (s : List ℕ) (at : ℕ) → rest s at ≡ drop at s
 rest_is s at = take_all (length s - at) (drop at s) (omega (arith, length-drop at s))
 
--- where a run of hours ends
-hours_end : (m : ℕ) (b : Book) (s : List ℕ) (from : ℕ) → (from ≤ (hours_of m b s from).next) × ((hours_of m b s from).next ≤ from + hour_length * m)
+-- where a run of hours ends: inside, and after no more records than bytes
+record Ended (s : List ℕ) (x : Run) : Type 0 where
+  inside : x.next ≤ length s
+  few : x.count ≤ x.next
+
+hours_end : (m : ℕ) (b : Book) (s : List ℕ) (from count : ℕ) → from ≤ length s → count ≤ from → Ended s (hours_of m b s from count)
 unfolding hours_of
-hours_end zero b s from = (omega arith, omega arith)
-hours_end (suc m) b s from = go (is_accepted_hour b (hour_bytes s from)) refl (hours_end m (entered b (hour_bytes s from)).book s (from + hour_length))
+hours_end zero b s from count inside few = record { inside = inside; few = few }
+hours_end (suc m) b s from count inside few = go (eqb k 0) refl (hours_end m (entered b (take k (drop from s))).book s (from + k) (suc count))
   where
-    after : Run
-    after = hours_of m (entered b (hour_bytes s from)).book s (from + hour_length)
+    k : ℕ
+    k = next_hours b s from
 
-    go : (t : Bool) → is_accepted_hour b (hour_bytes s from) ≡ t → (from + hour_length ≤ after.next) × (after.next ≤ from + hour_length + hour_length * m)
-        → (from ≤ (hours_of (suc m) b s from).next) × ((hours_of (suc m) b s from).next ≤ from + hour_length * suc m)
-    go true q (low, high) = rw q (omega arith, omega arith)
-    go false q (low, high) = rw q (omega arith, omega arith)
+    go : (t : Bool) → eqb k 0 ≡ t
+        → (from + k ≤ length s → suc count ≤ from + k → Ended s (hours_of m (entered b (take k (drop from s))).book s (from + k) (suc count)))
+        → Ended s (hours_of (suc m) b s from count)
+    go true q rest = rw q (record { inside = inside; few = few })
+    go false q rest =
+        let some : (k ≡ 0 → ⊥) = eqb-false k 0 q in
+        rw q (rest (omega (arith, (taken_whole hour_kinds b (drop from s) k some refl).there, length-drop from s)) (omega (arith, some)))
 
--- they end inside the slice
-pub hours_inside : (b : Book) (s : List ℕ) {taken : ℕ} {after : Book} → run taken after ≡ first_hours b s → taken ≤ length s
-hours_inside b s e = omega (arith, ap (λ (x : Run). x.next) e, (hours_end (length s / hour_length) b s 0).1)
+pub hours_ended : (b : Book) (s : List ℕ) {taken count : ℕ} {after : Book} → run taken count after ≡ first_hours b s → (taken ≤ length s) × (count ≤ taken)
+hours_ended b s e =
+    let end = hours_end (length s) b s 0 0 (omega arith) (omega arith) in
+    let next = ap (λ (x : Run). x.next) e in
+    (omega (arith, next, end.inside), omega (arith, next, ap (λ (x : Run). x.count) e, end.few))
 
-pub hours_counted : (r : State) (s : List ℕ) {taken : ℕ} {after : Book} → run taken after ≡ first_hours r.book s
-    → HoursTaken r s taken (record { book = after; tried = r.tried + taken / hour_length; accepted = r.accepted + taken / hour_length; text = r.text })
-hours_counted r s e = (ap (λ (x : Run). x.next) e, ap (with_hours r) e, hours_inside r.book s e)
+pub hours_counted : (r : State) (s : List ℕ) {taken count : ℕ} {after : Book} → run taken count after ≡ first_hours r.book s
+    → HoursTaken r s taken (record { book = after; tried = r.tried + count; accepted = r.accepted + count; text = r.text })
+hours_counted r s e = (ap (λ (x : Run). x.next) e, ap (after_run r) e, (hours_ended r.book s e).0)
 
 -- the same, whatever was printed before
 abbrev pub with_text : List ℕ → State → State
@@ -74,84 +84,96 @@ no_lines_text : (a : ℕ) → party_lines a no_lines party_count ≡ []
 unfolding party_lines list_below
 no_lines_text a = refl
 
--- an Hour is no Post
-hour_lines : (b : Book) (r : Decoded) → of_hour false (λ h. true) r ≡ true → lines_of b r ≡ no_lines
-hour_lines b r =
-    chosen (λ t. t ≡ true → lines_of b r ≡ no_lines) (eqb (tag_of_record r) 5) (λ q e. rw (eqb-true (tag_of_record r) 5 q)) (λ e. absurd (false≢true e))
+-- an Hour and a Day are no Post
+hour_lines : (b : Book) (r : Decoded) → is_one_of hour_kinds r ≡ true → lines_of b r ≡ no_lines
+hour_lines b r e = go (eqb (tag_of_record r) 5) refl (eqb (tag_of_record r) 9) refl e
+  where
+    go : (t : Bool) → eqb (tag_of_record r) 5 ≡ t → (u : Bool) → eqb (tag_of_record r) 9 ≡ u → (t || (u || false)) ≡ true → lines_of b r ≡ no_lines
+    go true q u p e = rw (eqb-true (tag_of_record r) 5 q)
+    go false q true p e = rw (eqb-true (tag_of_record r) 9 p)
+    go false q false p e = absurd (false≢true e)
 
-module _ (b : Book) (s : List ℕ) (accepted : is_accepted_hour b s ≡ true) where
-  is_hour : of_hour false (λ h. true) (decoded s) ≡ true
-  is_hour = (both_true {a = of_hour false (λ h. true) (decoded s)} accepted).0
-
+module _ (b : Book) (s : List ℕ) (accepted : is_accepted_as hour_kinds b s ≡ true) where
   number_zero : eqb (entered b s).number 0 ≡ true
-  number_zero = (both_true {a = of_hour false (λ h. true) (decoded s)} accepted).1
+  number_zero = (both_true {a = is_one_of hour_kinds (decoded s)} accepted).1
 
   lines_zero : (entered b s).lines ≡ no_lines
   unfolding entered
   lines_zero = go (eqb (refusal (facts_of_book b) s) 0) refl
     where
       go : (t : Bool) → eqb (refusal (facts_of_book b) s) 0 ≡ t → (entered b s).lines ≡ no_lines
-      go true q = rw q (hour_lines b (decoded s) is_hour)
+      go true q = rw q (hour_lines b (decoded s) (both_true {a = is_one_of hour_kinds (decoded s)} accepted).0)
       go false q = rw q
 
--- an accepted hour is counted, and nothing is printed
-tried_hour : (r : State) (s : List ℕ) → is_accepted_hour r.book s ≡ true → tried r s ≡ counted r (entered r.book s).book 1
+-- an accepted one is counted, and nothing is printed
+tried_hour : (r : State) (s : List ℕ) → is_accepted_as hour_kinds r.book s ≡ true → tried r s ≡ counted r (entered r.book s).book 1
 unfolding tried answer_text
 tried_hour r s e =
     rw (number_zero r.book s e, lines_zero r.book s e, no_lines_text (post_area s), append-nil r.text, add-one r.tried)
 
 -- the loop over s into a text of `size` bytes at most: what is left to do is what was to do at first
 module _ (size : ℕ) (s : List ℕ) where
-  one_hour : (n : ℕ) (r : State) (from : ℕ) → ltb size (length r.text + room) ≡ false → is_accepted_hour r.book (hour_bytes s from) ≡ true
-      → pass_of (suc n) size r s from ≡ pass_of n size (counted r (entered r.book (hour_bytes s from)).book 1) s (from + hour_length)
+  one_hour : (n : ℕ) (r : State) (at k : ℕ) {l : List ℕ} → l ≡ drop at s → ltb size (length r.text + room) ≡ false → next_record l ≡ Whole k
+      → is_accepted_as hour_kinds r.book (take k l) ≡ true
+      → pass_of (suc n) size r s at ≡ pass_of n size (counted r (entered r.book (take k l)).book 1) s (at + k)
   unfolding pass_of
-  one_hour n r from free e =
-      rw (free, hour_next (drop from s) (is_hour r.book (hour_bytes s from) e), tried_hour r (hour_bytes s from) e)
+  one_hour n r at k {l} here free next e = rw (free, sym here, next, tried_hour r (take k l) e)
 
-  -- so many hours of what follows a place, from k on, and what is left of the pass after them
-  record AfterHours (n : ℕ) (r : State) (from k : ℕ) (x : Run) : Type 0 where
+  -- so many Hours and Days of what follows a place, from k on, and what is left of the pass after them
+  record AfterHours (n : ℕ) (r : State) (from k count : ℕ) (x : Run) : Type 0 where
     hours : ℕ
     left : ℕ
-    next_is : x.next ≡ k + hour_length * hours
+    count_is : x.count ≡ count + hours
+    grows : k + hours ≤ x.next
     there : from + x.next ≤ length s
     enough : length s < from + x.next + left
     same : pass_of n size r s (from + k) ≡ pass_of left size (counted r x.book hours) s (from + x.next)
 
-  bytes_there : (from k : ℕ) → hour_bytes (drop from s) k ≡ hour_bytes s (from + k)
-  bytes_there from k = ap (λ (l : List ℕ). take hour_length l) (drop-drop k from s ∙ ap (λ (i : ℕ). drop i s) (omega arith))
-
-  after_hours : (m n : ℕ) (r : State) (from k : ℕ) → ltb size (length r.text + room) ≡ false → from + k + hour_length * m ≤ length s → length s < from + k + n
-      → AfterHours n r from k (hours_of m r.book (drop from s) k)
+  after_hours : (m n : ℕ) (r : State) (from k count : ℕ) → ltb size (length r.text + room) ≡ false → from + k ≤ length s → length s < from + k + n
+      → AfterHours n r from k count (hours_of m r.book (drop from s) k count)
   unfolding hours_of
-  after_hours zero n r from k free within enough =
-      record { hours = 0; left = n; next_is = omega arith; there = omega arith; enough = enough; same = rw (counted_none r) }
-  after_hours (suc m) zero r from k free within enough = absurd (omega arith)
-  after_hours (suc m) (suc n) r from k free within enough = go (is_accepted_hour r.book (hour_bytes (drop from s) k)) refl (after_hours m n)
+  after_hours zero n r from k count free within enough =
+      record { hours = 0; left = n; count_is = omega arith; grows = omega arith; there = within; enough = enough; same = rw (counted_none r) }
+  after_hours (suc m) zero r from k count free within enough = absurd (omega arith)
+  after_hours (suc m) (suc n) r from k count free within enough = go (eqb size_of 0) refl (after_hours m n)
     where
-      next : Book
-      next = (entered r.book (hour_bytes (drop from s) k)).book
+      size_of : ℕ
+      size_of = next_hours r.book (drop from s) k
 
-      go : (t : Bool) → is_accepted_hour r.book (hour_bytes (drop from s) k) ≡ t
-          → ((r : State) (from k : ℕ) → ltb size (length r.text + room) ≡ false → from + k + hour_length * m ≤ length s → length s < from + k + n
-          → AfterHours n r from k (hours_of m r.book (drop from s) k))
-          → AfterHours (suc n) r from k (hours_of (suc m) r.book (drop from s) k)
+      next : Book
+      next = (entered r.book (take size_of (drop k (drop from s)))).book
+
+      go : (t : Bool) → eqb size_of 0 ≡ t
+          → ((r : State) (from k count : ℕ) → ltb size (length r.text + room) ≡ false → from + k ≤ length s → length s < from + k + n
+          → AfterHours n r from k count (hours_of m r.book (drop from s) k count))
+          → AfterHours (suc n) r from k count (hours_of (suc m) r.book (drop from s) k count)
       go true q rest =
-          let more : AfterHours n (counted r next 1) from (k + hour_length) (hours_of m next (drop from s) (k + hour_length))
-          = rest (counted r next 1) from (k + hour_length) free (omega arith) (omega arith) in
-          let place : from + k + hour_length ≡ from + (k + hour_length) = omega arith in
+          rw q
+          (record { hours = 0; left = suc n; count_is = omega arith; grows = omega arith; there = within; enough = enough; same = rw (counted_none r) })
+      go false q rest =
+          let some : (size_of ≡ 0 → ⊥) = eqb-false size_of 0 q in
+          let here : drop k (drop from s) ≡ drop (from + k) s = drop-drop k from s in
+          let whole = taken_whole hour_kinds r.book (drop k (drop from s)) size_of some refl in
+          let accepted = taken_accepted hour_kinds r.book (drop k (drop from s)) size_of some refl in
+          let inside : from + (k + size_of) ≤ length s = omega (arith, whole.there, length-drop k (drop from s), length-drop from s, within) in
+          let more : AfterHours n (counted r next 1) from (k + size_of) (suc count) (hours_of m next (drop from s) (k + size_of) (suc count))
+          = rest (counted r next 1) from (k + size_of) (suc count) free inside (omega (arith, some)) in
+          let after : Run = hours_of m next (drop from s) (k + size_of) (suc count) in
+          let place : from + k + size_of ≡ from + (k + size_of) = omega arith in
+          let one : pass_of (suc n) size r s (from + k) ≡ pass_of n size (counted r next 1) s (from + (k + size_of))
+          = rw place at (one_hour n r (from + k) size_of here free whole.next_is accepted) in
+          let same : pass_of (suc n) size r s (from + k) ≡ pass_of more.left size (counted r after.book (suc more.hours)) s (from + after.next)
+          = one ∙ more.same ∙ ap (λ (x : State). pass_of more.left size x s (from + after.next)) (counted_more r next after.book more.hours) in
           rw q
           (record {
             hours = suc more.hours;
             left = more.left;
-            next_is = omega (arith, more.next_is);
+            count_is = omega (arith, more.count_is);
+            grows = omega (arith, more.grows, some);
             there = more.there;
             enough = more.enough;
-            same = one_hour n r (from + k) free (rw (sym (bytes_there from k)) q)
-                ∙ rw (sym (bytes_there from k), place) (more.same ∙ rw (counted_more r next (hours_of m next (drop from s) (k + hour_length)).book more.hours));
+            same = same;
           })
-      go false q rest =
-          rw q
-          (record { hours = 0; left = suc n; next_is = omega arith; there = omega arith; enough = enough; same = rw (counted_none r) })
 
   module _ (first : State) where
     pub record Going (r : State) (at : ℕ) : Type 0 where
@@ -240,18 +262,18 @@ module _ (size : ℕ) (s : List ℕ) where
           go taken x next after found.left found.enough found.same
         where
           run : Run
-          run = hours_of (length (drop at s) / hour_length) r.book (drop at s) 0
+          run = first_hours r.book (drop at s)
 
           short : ltb size (length r.text + room) ≡ false
           short = le-ltb size (length r.text + room) h
 
-          found : AfterHours g.left r at 0 run
-          found = after_hours (length (drop at s) / hour_length) g.left r at 0 short (omega (arith, length-drop at s, g.there)) (omega (arith, g.enough))
+          found : AfterHours g.left r at 0 0 run
+          found = after_hours (length (drop at s)) g.left r at 0 0 short (omega (arith, g.there)) (omega (arith, g.enough))
 
-          hours : run.next / hour_length ≡ found.hours
-          hours = omega (arith, found.next_is)
+          hours : run.count ≡ found.hours
+          hours = omega (arith, found.count_is)
 
-          go : (taken : ℕ) (x : State) → taken ≡ run.next → x ≡ with_hours r run → (n : ℕ) → length s < at + run.next + n
+          go : (taken : ℕ) (x : State) → taken ≡ run.next → x ≡ after_run r run → (n : ℕ) → length s < at + run.next + n
               → pass_of g.left size r s (at + 0) ≡ pass_of n size (counted r run.book found.hours) s (at + run.next)
               → Counted x (at + taken)
           go taken x e after zero enough same = absurd (omega (arith, found.there))
@@ -262,7 +284,7 @@ module _ (size : ℕ) (s : List ℕ) where
                 there = found.there;
                 enough = enough;
                 same = rw hours (sym (tries_next n (counted r run.book found.hours) (at + run.next) short) ∙ sym same ∙ rw (add-zero at) g.same);
-                counts = omega (arith, g.counts, hours, found.next_is, found.there);
+                counts = omega (arith, g.counts, hours, found.grows, found.there);
                 has_room = h;
               })
 

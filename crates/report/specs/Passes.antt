@@ -1,12 +1,12 @@
 -- The records of a slice, one after another. 01, The ledger program.
-use Rattle.std.specs.Prelude.{◌≡◌, cond, ◌&&◌, List, [], ◌∷◌, ◌++◌, ℕ, zero, suc, ◌+◌, ◌-◌, ◌/◌, ◌^◌, ◌≤◌, eqb, ltb, leb, length, take, drop, Option, Some, None, Result, Ok, Err}
+use Rattle.std.specs.Prelude.{◌≡◌, cond, ◌&&◌, List, [], ◌∷◌, ◌++◌, ℕ, zero, suc, ◌+◌, ◌-◌, ◌^◌, ◌≤◌, eqb, ltb, leb, length, take, drop, Option, Some, None, Result, Ok, Err}
 use Rattle.records.specs.Stream.{next_record, on_next, strings_of}
 use Rattle.records.specs.Decoded.{decoded}
 use Rattle.records.specs.Kinds.{of_post}
 use Rattle.book.specs.declared.Book.{Book}
 use Rattle.book.specs.Books.{empty_book}
 use Rattle.book.specs.Entered.{entered}
-use Rattle.book.specs.Runs.{Run, first_hours, hour_length}
+use Rattle.book.specs.Runs.{Run, first_hours}
 use Rattle.report.specs.declared.standing.Report.{Report}
 use Rattle.report.specs.declared.pass.Stop.{Stop}
 use Rattle.report.specs.declared.pass.Stop.TheVariants as stop
@@ -43,19 +43,19 @@ tried r s = record {
   text = r.text ++ answer_text (suc r.tried) (post_area s) (entered r.book s);
 }
 
--- the state after the hours that `hours` of the book took, twelve bytes each
-abbrev pub with_hours : State → Run → State
-with_hours r run = record {
+-- the state after the Hours and Days that `hours` of the book took
+abbrev pub after_run : State → Run → State
+after_run r run = record {
   book = run.book;
-  tried = r.tried + run.next / hour_length;
-  accepted = r.accepted + run.next / hour_length;
+  tried = r.tried + run.count;
+  accepted = r.accepted + run.count;
   text = r.text;
 }
 
--- the accepted hours at the start of s were taken, and that many bytes
+-- the accepted Hours and Days at the start of s were taken, and that many bytes
 abbrev pub HoursTaken : State → List ℕ → ℕ → State → Type 0
 HoursTaken before s taken after =
-    (taken ≡ (first_hours before.book s).next) × (after ≡ with_hours before (first_hours before.book s)) × (taken ≤ length s)
+    (taken ≡ (first_hours before.book s).next) × (after ≡ after_run before (first_hours before.book s)) × (taken ≤ length s)
 
 -- a pass over a slice that stopped, and where the record begins that it stopped at
 pub record Stopped : Type 0 where

@@ -12,7 +12,7 @@ use crate::standing::Report;
 use crate::text::{LINES_MOST, PAIR_MOST, put_end, put_lines, put_refusal};
 use book::Book;
 use records::decode::decode;
-use records::format::{HOUR_BYTES, Record};
+use records::format::Record;
 use records::stream::{Next, next_record};
 
 // Why a pass over a slice stopped.
@@ -117,17 +117,17 @@ impl Report {
         }
     }
 
-    // Accepted hours in a row: they are counted, and nothing is printed. Answers how many bytes they are.
+    // Accepted Hours and Days in a row: they are counted, and nothing is printed. Answers how many bytes they are.
     fn take_hours(&mut self, s: &[u8]) -> usize
         requires { self.old.tried + length s.now < 2 ^ 64 }
         ensures { HoursTaken (state_of self.old []) s.now result (state_of self.new []) }
     {
         let taken = self.book.hours(s);
         // `as`, here and below: no `From` between `usize` and `u64`.
-        let hours = (taken / HOUR_BYTES) as u64;
-        self.tried += hours;
-        self.accepted += hours;
-        taken
+        let records = taken.records as u64;
+        self.tried += records;
+        self.accepted += records;
+        taken.bytes
     }
 
     // The records of s, until there is no room for another answer or no whole record is left. Each turn takes a record, of a

@@ -1,6 +1,8 @@
 pub mod Named
 pub mod AcceptedRows
 pub mod Fields
+pub mod DayRows
+pub mod DayHours
 pub mod ByKind
 pub mod HourOrder
 pub mod WattDays

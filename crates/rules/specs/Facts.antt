@@ -1,5 +1,5 @@
 -- What the rules ask beyond the string: the standing facts of 01, Records, and 02, Item 2, and the figures of each unit's accepted
--- hours.
+-- hours, those of its Days (02, Item 3) among them.
 -- As an argument, area, unit, commitment and party number k of 01 is k − 1 here; inside a record numbers are the paper's. Where
 -- nothing is entered the record is all zeros, which no accepted record is: their numbers begin with 1.
 use Rattle.std.specs.Prelude.{Bool, ℕ, ltb}

@@ -1,5 +1,6 @@
 pub mod Facts
 pub mod Hours
+pub mod Days
 pub mod Refusal
 pub mod Dues
 pub mod Rules

@@ -5,12 +5,13 @@ use Rattle.calendar.specs.DeliveryYear.{delivery_days, is_delivery_date}
 use Rattle.records.specs.declared.format.CommitmentRecord.{CommitmentRecord}
 use Rattle.records.specs.declared.format.HourRecord.{HourRecord}
 use Rattle.records.specs.declared.format.Fault.{Fault}
-use Rattle.records.specs.Format.{fields_fit, year_format, unit_format, commitment_format, hour_format, load_format, post_format, owner_format}
-use Rattle.records.specs.Kinds.{Decoded, fault_number, format_of, tag_of_record, numbers_of, is_of, is_one_of, of_unit, of_commitment, of_hour, of_post}
+use Rattle.records.specs.Format.{fields_fit, year_format, unit_format, commitment_format, hour_format, load_format, post_format, owner_format, day_format}
+use Rattle.records.specs.Kinds.{Decoded, fault_number, format_of, tag_of_record, numbers_of, is_of, is_one_of, of_unit, of_commitment, of_hour, of_post, of_day}
 use Rattle.rules.specs.declared.refusal.Asked.{Asked}
 use Rattle.rules.specs.declared.refusal.Refusal.{Refusal}
 use Rattle.rules.specs.declared.refusal.Refusal.TheVariants.{Broken, UnknownTag, WrongLength, NoYear, SecondYear, OutOfRange, NotEntered, SecondUnit, DeratedOut, NotLater, Undistributed}
 use Rattle.rules.specs.Hours.{derated, hour_index}
+use Rattle.rules.specs.Days.{day_hour}
 
 -- the number of each row
 abbrev pub row_number : Refusal → ℕ
@@ -47,13 +48,13 @@ days_fit y c = leb c.first c.last && ltb c.last (delivery_days y)
 unfoldable pub derating_fits : HourRecord → Bool
 derating_fits h = cond (eqb h.kind derated) (leb 1 h.derating) (eqb h.derating 0)
 
--- a date in the calendar: of the delivery year
+-- a date in the calendar, of an Hour and (02, Item 3) of a Day: of the delivery year
 unfoldable pub hour_fits : ℕ → HourRecord → Bool
 hour_fits y h = is_delivery_date y h.month h.day && derating_fits h
 
 -- the rules of whole records; y is the year that was entered
 abbrev pub own_rule : ℕ → Decoded → Bool
-own_rule y r = of_commitment (of_hour true (hour_fits y) r) (days_fit y) r
+own_rule y r = of_commitment (of_hour (of_day true (λ d. is_delivery_date y d.month d.day) r) (hour_fits y) r) (days_fit y) r
 
 -- 01, Records: every number in its field's range,
 unfoldable pub numbers_fit : Decoded → Bool
@@ -78,12 +79,12 @@ second_year a r = not (eqb a.year 0) && is_year r
 abbrev pub out_of_range : Asked → Decoded → Bool
 out_of_range a r = not (in_range a.year r)
 
--- row 7: not entered: the area of a Unit, Load or Post, or the unit of a Commitment, Hour or (02, Item 2) Owner. `a.area` and
--- `a.unit` say whether the area and the unit that the record names are entered.
+-- row 7: not entered: the area of a Unit, Load or Post, or the unit of a Commitment, Hour or (02, Items 2 and 3) Owner or Day.
+-- `a.area` and `a.unit` say whether the area and the unit that the record names are entered.
 abbrev pub not_entered : Asked → Decoded → Bool
 not_entered a r =
     (is_one_of (unit_format ∷ load_format ∷ post_format ∷ []) r && not a.area)
-    || (is_one_of (commitment_format ∷ hour_format ∷ owner_format ∷ []) r && not a.unit)
+    || (is_one_of (commitment_format ∷ hour_format ∷ owner_format ∷ day_format ∷ []) r && not a.unit)
 
 -- row 8: the unit of a Unit record is already entered
 abbrev pub second_unit : Asked → Decoded → Bool
@@ -93,9 +94,10 @@ second_unit a r = of_unit false (λ u. a.unit) r
 abbrev pub derated_out : Asked → Decoded → Bool
 derated_out a r = of_hour false (λ h. eqb h.kind derated && leb a.installed.0 h.derating) r
 
--- row 10: not later, by day of the delivery year and then hour ending, than the unit's last accepted hour
+-- row 10: not later, by day of the delivery year and then hour ending, than the unit's last accepted hour; of a Day its first hour,
+-- which decides for all 24 (02, Item 3; a law of book's Days)
 abbrev pub not_later : Asked → Decoded → Bool
-not_later a r = of_hour false (λ h. leb (hour_index a.year h) a.last) r
+not_later a r = of_hour (of_day false (λ d. leb (hour_index a.year (day_hour d 1)) a.last) r) (λ h. leb (hour_index a.year h) a.last) r
 
 -- row 11: money is left over and the area's obligations add up to 0
 abbrev pub undistributed : Asked → Decoded → Bool

@@ -6,7 +6,11 @@ use Rattle.records.specs.declared.format.UnitRecord.{UnitRecord}
 use Rattle.records.specs.Kinds.{Decoded}
 use Rattle.records.specs.Decoded.{decoded}
 use Rattle.records.specs.Format.{area_count, unit_count, commitment_count, party_count}
-use Rattle.records.specs.Kinds.{of_area, of_unit, of_commitment, of_hour, of_load, of_post, of_owner}
+use Rattle.records.specs.Kinds.{of_area, of_unit, of_commitment, of_hour, of_load, of_post, of_owner, of_day}
+use Rattle.calendar.specs.declared.delivery_year.DeliveryDate.{DeliveryDate}
+use Rattle.calendar.specs.DeliveryYear.{no_date}
+use Rattle.rules.specs.Hours.{date_of}
+use Rattle.rules.specs.Days.{day_hour}
 use Rattle.rules.specs.declared.refusal.Asked.{Asked}
 use Rattle.rules.specs.Refusal.{refusal_of}
 use Rattle.rules.specs.Facts.{Facts, is_entered}
@@ -37,7 +41,11 @@ area_named r =
 -- and of the unit
 abbrev pub unit_named : Decoded → ℕ
 unit_named r =
-    unit_index (of_unit (of_commitment (of_hour (of_owner 0 (λ o. o.unit) r) (λ h. h.unit) r) (λ c. c.unit) r) (λ u. u.unit) r)
+    unit_index (of_unit (of_commitment (of_hour (of_owner (of_day 0 (λ d. d.unit) r) (λ o. o.unit) r) (λ h. h.unit) r) (λ c. c.unit) r) (λ u. u.unit) r)
+
+-- the date that a record names, in delivery year y; no date for a record that names none
+abbrev pub date_named : ℕ → Decoded → DeliveryDate
+date_named y r = of_hour (of_day no_date (λ d. date_of y (day_hour d 1)) r) (date_of y) r
 
 -- row 11 is asked of a Post
 abbrev pub post_undistributed : Facts → Decoded → Bool

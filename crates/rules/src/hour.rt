@@ -2,9 +2,10 @@
 #![tactic(auto, unfolding(crate::specs::Hours::hour_index, crate::specs::Hours::is_peak, crate::specs::Hours::service_hour, crate::specs::Hours::outage_hour, crate::specs::Hours::derated_watts))]
 
 ghost use Rattle.std.specs.Prelude.{◌≡◌, ◌+◌, ◌≤◌, ◌<◌, ◌^◌, eqb};
-ghost use Rattle.rules.specs.Hours.{derated, hour_index, is_peak, hour_counts, IsKind};
+ghost use Rattle.rules.specs.Hours.{derated, date_of, hour_index, is_peak, hour_counts, IsKind};
 
-use calendar::delivery_year::DeliveryDate;
+use calendar::delivery_year::{DeliveryDate, KnownDate};
+use calendar::hours::DAY_HOURS;
 use capacity::rating::HourCounts;
 use records::format::HourRecord;
 
@@ -54,10 +55,8 @@ pub(crate) fn is_derated(h: HourRecord) -> bool
 
 // Its date in a delivery year. The year, which is the book's, and the Hour stay two arguments: the definitions take them so
 // (`hour_index y h`, `hour_counts y h`), and the two functions of these names are public.
-pub(crate) fn date_of(year: u32, h: HourRecord) -> DeliveryDate
-    ensures year { result.year ≡ year }
-    ensures month { result.month ≡ h.month }
-    ensures day { result.day ≡ h.day }
+pub fn date_of(year: u32, h: HourRecord) -> DeliveryDate
+    ensures { result ≡ date_of year h }
 {
     DeliveryDate {
         year,
@@ -66,31 +65,35 @@ pub(crate) fn date_of(year: u32, h: HourRecord) -> DeliveryDate
     }
 }
 
-// Its index in a delivery year, by day and then hour ending. Inlined, it is worked out once for the rows and for the unit.
+// Its index in a delivery year, by day and then hour ending. Here and below `known` may be any date: where it is the Hour's, it is
+// not worked out again.
 #[inline(always)]
-pub fn hour_index(year: u32, h: HourRecord) -> u64
+pub fn hour_index(year: u32, h: HourRecord, known: KnownDate) -> u64
     ensures { result ≡ hour_index year h }
 {
-    u64::from(date_of(year, h).day_of_year()) * 24 + u64::from(h.hour)
+    u64::from(known.or_known(date_of(year, h)).day_of_year) * u64::from(DAY_HOURS)
+        + u64::from(h.hour)
 }
 
-fn is_peak(year: u32, h: HourRecord) -> bool
+#[inline(always)]
+fn is_peak(year: u32, h: HourRecord, known: KnownDate) -> bool
     ensures { result ≡ is_peak year h }
 {
-    date_of(year, h).is_peak(h.hour)
+    known.or_known(date_of(year, h)).is_peak(h.hour)
 }
 
 // An hour, as SH and FOH count it.
 const HOUR: u64 = 1;
 
 // What an hour adds to SH, to FOH and to D.
-pub fn hour_counts(year: u32, h: HourRecord) -> HourCounts
+#[inline(always)]
+pub fn hour_counts(year: u32, h: HourRecord, known: KnownDate) -> HourCounts
     ensures value { result ≡ hour_counts year h }
     ensures hours_most { result.service + result.outage ≤ 1 }
     ensures derated_most { result.derated < 2 ^ 32 }
 {
     let nothing = HourCounts::default();
-    if !is_peak(year, h) {
+    if !is_peak(year, h, known) {
         return nothing;
     }
     match HourKind::try_from(h.kind) {

@@ -52,6 +52,7 @@ pub fn unit_named(r: Record) -> usize
         Record::Commitment(c) => index::<UNITS>(c.unit),
         Record::Hour(h) => index::<UNITS>(h.unit),
         Record::Owner(o) => index::<UNITS>(o.unit),
+        Record::Day(d) => index::<UNITS>(d.unit),
         _ => 0,
     }
 }

@@ -12,7 +12,7 @@ ghost use Rattle.rules.specs.Refusal.{numbers_fit, derating_fits, in_range};
 
 use crate::hour::{HourKind, date_of, is_derated};
 use crate::indices::{AREAS, COMMITMENTS, PARTIES, UNITS};
-use calendar::delivery_year::delivery_days;
+use calendar::delivery_year::{KnownDate, delivery_days};
 use capacity::InstalledWatts;
 use capacity::rating::Rating;
 use numbers::range::within;
@@ -98,13 +98,13 @@ fn derating_fits(h: HourRecord) -> bool
     }
 }
 
-pub(crate) fn hour_fits(year: u32, h: HourRecord) -> bool
+pub(crate) fn hour_fits(year: u32, h: HourRecord, known: KnownDate) -> bool
     ensures { result ≡ in_range year (Ok (Hour h)) }
 {
     is_one_of::<UNITS>(h.unit)
         && within(1, 24, u64::from(h.hour))
         && is_kind(h.kind)
-        && date_of(year, h).is_date()
+        && known.or_known(date_of(year, h)).is_date
         && derating_fits(h)
 }
 

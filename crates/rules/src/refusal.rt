@@ -3,20 +3,23 @@
 
 ghost use Rattle.std.specs.Prelude.{◌≡◌, false, ◌&&◌, eqb, leb, cond, Ok, Err};
 ghost use Rattle.records.specs.declared.format.Record.TheVariants as records;
-ghost use Rattle.records.specs.declared.format.Record.TheVariants.{Year, Area, Commitment, Hour, Load, Post, Owner};
+ghost use Rattle.records.specs.declared.format.Record.TheVariants.{Year, Area, Commitment, Hour, Load, Post, Owner, Day};
 ghost use Rattle.rules.specs.Hours.{derated};
 ghost use Rattle.rules.specs.declared.refusal.Refusal.TheVariants.{NoYear, OutOfRange, NotEntered};
 ghost use Rattle.rules.specs.Refusal.{refusal_of, row_number, number_of, IsRow};
 ghost use Rattle.rules.specs.Rules.{asked_of};
 
+use crate::day::day_hour;
 use crate::hour::{hour_index, is_derated};
 use crate::ranges::{
     area_fits, commitment_fits, hour_fits, load_fits, owner_fits, post_fits, unit_fits, year_fits,
 };
+use calendar::delivery_year::KnownDate;
 use capacity::InstalledWatts;
 use money::area::Undistributed;
 use records::format::{
-    AreaRecord, CommitmentRecord, Fault, HourRecord, LoadRecord, OwnerRecord, Record, UnitRecord,
+    AreaRecord, CommitmentRecord, DayRecord, Fault, HourRecord, LoadRecord, OwnerRecord, Record,
+    UnitRecord,
 };
 
 // Why a record is refused: the rows, in the order of their numbers from 1.
@@ -169,14 +172,15 @@ impl Asked {
     }
 
     // The rows of an Hour alone.
-    pub fn admit_hour(self, r: HourRecord) -> Result<(), Refusal>
+    #[inline(always)]
+    pub fn admit_hour(self, r: HourRecord, known: KnownDate) -> Result<(), Refusal>
         ensures { number_of result ≡ refusal_of self (Ok (Hour r)) }
     {
-        self.admit_of_unit(hour_fits(self.year, r))?;
+        self.admit_of_unit(hour_fits(self.year, r, known))?;
         if derated_out(self.installed, r) {
             return Err(Refusal::DeratedOut);
         }
-        if hour_index(self.year, r) <= self.last {
+        if hour_index(self.year, r, known) <= self.last {
             return Err(Refusal::NotLater);
         }
         Ok(())
@@ -211,8 +215,17 @@ impl Asked {
         self.admit_of_unit(owner_fits(r))
     }
 
+    // The rows of a Day are those of its first hour, which decides for all.
+    #[tactic(auto, using(crate::proofs::DayRows::day_row))]
+    #[inline(always)]
+    pub fn admit_day(self, r: DayRecord, known: KnownDate) -> Result<(), Refusal>
+        ensures { number_of result ≡ refusal_of self (Ok (Day r)) }
+    {
+        self.admit_hour(day_hour(r, 1), known)
+    }
+
     // The first row that fits a record that the frame takes: one of 4 to 11, if any does.
-    pub fn admit(self, r: Record) -> Result<(), Refusal>
+    pub fn admit(self, r: Record, known: KnownDate) -> Result<(), Refusal>
         ensures { number_of result ≡ refusal_of self (Ok r) }
     {
         match r {
@@ -220,10 +233,11 @@ impl Asked {
             Record::Area(x) => self.admit_area(x),
             Record::Unit(x) => self.admit_unit(x),
             Record::Commitment(x) => self.admit_commitment(x),
-            Record::Hour(x) => self.admit_hour(x),
+            Record::Hour(x) => self.admit_hour(x, known),
             Record::Load(x) => self.admit_load(x),
             Record::Post(x) => self.admit_post(x),
             Record::Owner(x) => self.admit_owner(x),
+            Record::Day(x) => self.admit_day(x, known),
         }
     }
 }

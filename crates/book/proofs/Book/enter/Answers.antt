@@ -11,7 +11,7 @@ use Rattle.book.specs.Steps.{post_answer}
 use Rattle.book.specs.Seen.{seen}
 use Rattle.book.proofs.Answers.{faulty, returned, accepted, sound_after, posted}
 use Rattle.book.proofs.Book.enter.Goals as goal
-use Rattle.book.proofs.Book.enter.Goals.{In_ok-admit, in-Year, in-Area, in-Unit, in-Commitment, in-Hour, in-Load, in-Owner}
+use Rattle.book.proofs.Book.enter.Goals.{In_ok-admit, in-Year, in-Area, in-Unit, in-Commitment, in-Hour, in-Load, in-Owner, in-Day}
 
 pub returns-in_err-r : goal.returns-in_err-r
 returns-in_err-r c = faulty c.args.self.now c.args.bytes.now _ c.from_residual.result c.in_err-r.ensures c.from_residual.ensures.1
@@ -50,6 +50,7 @@ returns c =
         w.self-is ∙ rw (get_or_default b.obligations c.area_named-i.result [] no_obligations inside, area, w.index-p.ensures.value, w.in-Load.is),
       )
       | in-Owner w ↦ (rw w.in-Owner.is refl, w.self-is ∙ rw (w.with_owner.ensures, unit, w.in-Owner.is))
+      | in-Day w ↦ (rw w.in-Day.is refl, w.self-is ∙ rw (w.with_day.ensures, unit, w.in-Day.is))
     ] in
     let e = accepted b c.args.bytes.now c.in_ok-r.ensures area unit c.new-asked.ensures c.in_ok-admit.ensures stored.0 stored.1 in
     rw (← c.self.view_is, c.zero.ensures) e
@@ -83,3 +84,6 @@ invariant_of-self-in-Load c =
 
 pub invariant_of-self-in-Owner : goal.invariant_of-self-in-Owner
 invariant_of-self-in-Owner c = stored_sound (goal.at.invariant_of-self-in-Owner c).In_ok-admit (rw c.in-Owner.is refl) (rw (c.with_owner.ensures, c.unit_named-j.ensures.0, c.in-Owner.is))
+
+pub invariant_of-self-in-Day : goal.invariant_of-self-in-Day
+invariant_of-self-in-Day c = stored_sound (goal.at.invariant_of-self-in-Day c).In_ok-admit (rw c.in-Day.is refl) (rw (c.with_day.ensures, c.unit_named-j.ensures.0, c.in-Day.is))

@@ -1,29 +1,28 @@
-use Rattle.std.proofs.Common.{◌≡◌, ◌∙◌, ◌-◌, ◌*◌, ◌%◌, length, arith, inl}
-use Rattle.std.specs.Iterator.Adapters.{enumerate_source, enumerate_count}
-use Rattle.std.specs.Slice.Iter.{chunks_exact_size}
-use Rattle.book.proofs.HourRuns.{goes_on, stops, ends}
+use Rattle.std.proofs.Common.{arith}
+use Rattle.book.proofs.HourRuns.{rest_is, begins, lies_inside, goes_on, stops}
 use Rattle.book.proofs.Book.hours.Goals as goal
 
-pub loop-k-preserved : goal.loop-k-preserved
-loop-k-preserved c =
-    let (step, k, next, _) = c.in-Some.ensures.steps in
-    let size : chunks_exact_size (enumerate_source c.next.new.self) ≡ 12 = step.0 ∙ c.loop-k.invariant.2 in
-    let hour = c.enter_hour.ensures in
-    let left = goes_on c.loop-k.invariant.3 _ _ step.1.0 (step.1.1 ∙ c.loop-k.invariant.2) {next = enumerate_count c.next.new.self * 12} (omega arith) hour.value c.if-not-enter_hour.false hour.book in (
-      (omega arith, tt, inl (omega arith)),
-      tt,
-      size,
-      left,
-    )
+pub loop-date-init : goal.loop-date-init
+loop-date-init c = begins c.args.self.now c.args.s.now
 
-pub returns : goal.returns
-returns c =
-    let less = c.in-None.ensures.steps.0.1.0 in
-    let end : length c.args.s.now - length c.args.s.now % 12 ≡ enumerate_count c.loop-k.k-iterator * 12 = omega arith in
-    rw end (ends c.loop-k.invariant.3 (omega arith))
+pub returns-then-bytes-eq0 : goal.returns-then-bytes-eq0
+returns-then-bytes-eq0 c =
+    let none = c.if-bytes-eq0.true in
+    let is = rw (rest_is c.args.s.now c.loop-date.taken.bytes) at c.enter_next-bytes.ensures.value in
+    rw (rw none at c.enter_next-bytes.ensures.book) (stops c.loop-date.invariant is none)
 
-pub returns-then-not-enter_hour : goal.returns-then-not-enter_hour
-returns-then-not-enter_hour c =
-    let (step, k, _, _) = c.in-Some.ensures.steps in
-    let hour = c.enter_hour.ensures in
-    rw k (stops c.loop-k.invariant.3 _ _ step.1.0 (step.1.1 ∙ c.loop-k.invariant.2) hour.value c.if-not-enter_hour.true hour.book)
+pub overflow_add-taken : goal.overflow_add-taken
+overflow_add-taken c =
+    let is = rw (rest_is c.args.s.now c.loop-date.taken.bytes) at c.enter_next-bytes.ensures.value in
+    omega (arith, lies_inside c.loop-date.invariant is c.if-bytes-eq0.false)
+
+pub loop-date-smaller : goal.loop-date-smaller
+loop-date-smaller c =
+    let is = rw (rest_is c.args.s.now c.loop-date.taken.bytes) at c.enter_next-bytes.ensures.value in
+    omega (arith, lies_inside c.loop-date.invariant is c.if-bytes-eq0.false, c.if-bytes-eq0.false)
+
+pub loop-date-preserved : goal.loop-date-preserved
+loop-date-preserved c =
+    let some = c.if-bytes-eq0.false in
+    let is = rw (rest_is c.args.s.now c.loop-date.taken.bytes) at c.enter_next-bytes.ensures.value in
+    goes_on c.loop-date.invariant is some (rw (rest_is c.args.s.now c.loop-date.taken.bytes) at c.enter_next-bytes.ensures.book)

@@ -1,13 +1,9 @@
-use Rattle.std.proofs.Common.{◌≡◌, ◌*◌}
-use Rattle.std.specs.Iterator.Adapters.{enumerate_source, enumerate_count}
-use Rattle.std.specs.Slice.Iter.{chunks_exact_rest, chunks_exact_size}
-use Rattle.book.specs.Runs.{hour_length}
+use Rattle.std.proofs.Common.{◌-◌, length}
 use Rattle.book.proofs.HourRuns.{HoursLeft}
 use Rattle.book.proofs.Book.hours.Given as goal
 
-abbrev pub invariant-loop-k : goal.invariant-loop-k
-invariant-loop-k l =
-    (goal.iterator-loop-k).can_next l.k-iterator
-    × (goal.iterator-loop-k).is_finite l.k-iterator
-    × (chunks_exact_size (enumerate_source l.k-iterator) ≡ hour_length)
-    × HoursLeft l.initial.self l.s l.self (enumerate_count l.k-iterator * hour_length) (chunks_exact_rest (enumerate_source l.k-iterator))
+abbrev pub invariant-loop-date : goal.invariant-loop-date
+invariant-loop-date l = HoursLeft l.initial.self l.s l.self l.taken.bytes l.taken.records
+
+abbrev pub decreases-loop-date : goal.decreases-loop-date
+decreases-loop-date l = length l.s - l.taken.bytes

@@ -1,4 +1,4 @@
-use Rattle.promise.proofs.OneMore.{hour_counts_once, commitment_replaces, load_replaces, owner_replaces, list_kept, refused_lines, post_accepted, post_adds}
+use Rattle.promise.proofs.OneMore.{hour_counts_once, commitment_replaces, load_replaces, owner_replaces, record_joins, hours_join, list_kept, refused_lines, post_accepted, post_adds}
 use Rattle.promise.proofs.laws.reckoning.Goals as goal
 
 pub returns : goal.returns
@@ -8,6 +8,8 @@ returns c =
       commitment_replaces = commitment_replaces;
       load_replaces = load_replaces;
       owner_replaces = owner_replaces;
+      record_joins = record_joins;
+      hours_join = hours_join;
       list_kept = list_kept;
       refused_lines = refused_lines;
       post_accepted = post_accepted;

@@ -21,6 +21,10 @@ pub returns-in-Partial-clause-value : goal.returns-in-Partial-clause-value
 returns-in-Partial-clause-value g c =
     not_whole _ _ _ _ _ (here g (goal.at.returns-in-Partial-clause-value g c).After-take_hours-at) (sym c.next_record.ensures ∙ c.in-Partial.is)
 
+pub returns-in-Partial-clause-left : goal.returns-in-Partial-clause-left
+returns-in-Partial-clause-left g c =
+    let counted = here g (goal.at.returns-in-Partial-clause-left g c).After-take_hours-at in (counted.there, omega (arith, counted.counts))
+
 pub try_record-requires : goal.try_record-requires
 try_record-requires g c =
     let counted = here g (goal.at.try_record-requires g c).After-take_hours-at in
