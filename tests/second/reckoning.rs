@@ -33,7 +33,7 @@ type Refusal = u8;
 type PerParty = [i128; PARTIES];
 
 // ---------------------------------------------------------------------------------------------
-// 01, Records, and 02, Item 2: the eight records as they are written
+// 01, Records, and 02, Items 2 and 3: the nine records as they are written
 // ---------------------------------------------------------------------------------------------
 
 enum Record {
@@ -81,15 +81,28 @@ enum Record {
         unit: u8,
         party: u8,
     },
+    Day {
+        unit: u8,
+        month: u8,
+        day: u8,
+        marks: u32,
+    },
 }
 
-/// 02, Item 2: the tag of an Owner.
+/// 02, Items 2 and 3: the tags of an Owner and a Day, which is the last.
 const OWNER: u8 = 0x08;
+const DAY: u8 = 0x09;
 
 /// The two-byte number at a place of the value, high byte first.
 #[inline(always)]
 fn two(value: &[u8], at: usize) -> u16 {
     u16::from_be_bytes([value[at], value[at + 1]])
+}
+
+/// The three-byte number at a place of the value, high byte first.
+#[inline(always)]
+fn three(value: &[u8], at: usize) -> u32 {
+    u32::from_be_bytes([0, value[at], value[at + 1], value[at + 2]])
 }
 
 /// The four-byte number at a place of the value, high byte first.
@@ -142,7 +155,13 @@ fn read(tag: u8, value: &[u8]) -> Result<Record, Refusal> {
             unit: value[0],
             party: value[1],
         }),
-        (0x01..=OWNER, _) => Err(3),
+        (DAY, 6) => Ok(Record::Day {
+            unit: value[0],
+            month: value[1],
+            day: value[2],
+            marks: three(value, 3),
+        }),
+        (0x01..=DAY, _) => Err(3),
         _ => Err(2),
     }
 }
@@ -486,18 +505,79 @@ impl Records {
         self.owners[place] = Some(party);
         Ok(())
     }
+
+    /// 02, Item 3: 24 Hours, hours ending 1 to 24 in turn, accepted if and only if all 24 would be;
+    /// otherwise the first refusal among them.
+    fn enter_day(
+        &mut self,
+        unit: u8,
+        (month, day): (u8, u8),
+        marks: u32,
+        tally: &mut Tally,
+    ) -> Result<(), Refusal> {
+        let year = self.year.as_ref().ok_or(4)?;
+        // Each is tried as it would be after those before it, and kept when all have been.
+        let (mut places, mut next) = ([0; 24], None);
+        for (hour, kept_at) in (1..=24).zip(&mut places) {
+            let (date, kind) = ((month, day, hour), marked(marks, hour));
+            let (_, place) = try_hour(year, &mut self.units, next, unit, date, kind, 0)?;
+            (*kept_at, next) = (place, Some(place + 1));
+        }
+        let number = key(unit, UNITS)?;
+        let unit = self.units[number].as_mut().ok_or(7)?;
+        let before = unit.next;
+        for (hour, place) in (1..=24).zip(places) {
+            unit.keep_hour(place, marked(marks, hour), 0);
+        }
+        tally.day(number, (before, unit.next), (month, day), marks);
+        Ok(())
+    }
 }
 
-/// The Hour record: rows 6, 7, 9 and 10.
+/// 02, Item 3: the kind of an hour ending by the marks, whose lowest bit is the hour ending 1: a set
+/// bit means kind 0, a clear one kind 5.
+fn marked(marks: u32, hour: u8) -> u8 {
+    match marks >> (hour - 1) & 1 {
+        1 => 0,
+        _ => 5,
+    }
+}
+
+impl Unit {
+    #[inline(always)]
+    fn keep_hour(&mut self, place: u16, kind: u8, derating: u32) {
+        self.hours[usize::from(place)] = keep(kind, derating);
+        self.next = place + 1;
+    }
+}
+
+/// The Hour record: rows 6, 7, 9 and 10; then it is kept.
 #[inline(always)]
 fn enter_hour(
     year: &Year,
     units: &mut [Option<Unit>; UNITS],
     unit: u8,
-    (month, day, hour): (u8, u8, u8),
+    date: (u8, u8, u8),
     kind: u8,
     derating: u32,
 ) -> Result<(), Refusal> {
+    let (unit, place) = try_hour(year, units, None, unit, date, kind, derating)?;
+    unit.keep_hour(place, kind, derating);
+    Ok(())
+}
+
+/// The Hour record against rows 6, 7, 9 and 10: its unit and its place. The place after the last
+/// accepted hour is the unit's own unless another is given.
+#[inline(always)]
+fn try_hour<'a>(
+    year: &Year,
+    units: &'a mut [Option<Unit>; UNITS],
+    next: Option<u16>,
+    unit: u8,
+    (month, day, hour): (u8, u8, u8),
+    kind: u8,
+    derating: u32,
+) -> Result<(&'a mut Unit, u16), Refusal> {
     let unit = key(unit, UNITS)?;
     let day = year.day(month, day).ok_or(6)?;
     row(6, !(1..=24).contains(&hour) || kind > 5)?;
@@ -505,10 +585,8 @@ fn enter_hour(
     let unit = units[unit].as_mut().ok_or(7)?;
     row(9, derating >= unit.installed)?; // Only kind 1: the others have 0, and I is above 0.
     let place = place(day, u16::from(hour));
-    row(10, place < unit.next)?;
-    unit.hours[usize::from(place)] = keep(kind, derating);
-    unit.next = place + 1;
-    Ok(())
+    row(10, place < next.unwrap_or(unit.next))?;
+    Ok((unit, place))
 }
 
 // ---------------------------------------------------------------------------------------------
@@ -720,6 +798,7 @@ fn nets(records: &Records, year: &Year, area: usize, tally: &mut Tally) -> PerPa
         tally.unit(&figures);
         tally.owned(number, &figures, &records.commitments);
         tally.hours(number, unit);
+        tally.days(year, number, unit);
     }
     let lowered = std::array::from_fn(|party| lowered(nets[party], excesses[party]));
     tally.nets(&lowered, &takes);
@@ -875,6 +954,8 @@ impl Ledger {
     /// The end of the input: a record that is cut is tried and refused with 1; then comes `E n k`.
     pub fn finish(&mut self, out: &mut Vec<u8>) {
         if self.carried > 0 {
+            let is_day = self.carry[0] == DAY;
+            self.tally.add_if(is_day, Branch::DayCut);
             self.stop(out);
         }
         print(out, format_args!("E {} {}\n", self.tried, self.accepted));
@@ -919,12 +1000,7 @@ impl Ledger {
         };
         match tried {
             Ok(()) => self.accepted += 1,
-            Err(number) => {
-                if tag == OWNER {
-                    self.tally.owner_refused(number, value, &self.records.units);
-                }
-                self.refuse(number, out);
-            }
+            Err(number) => self.refuse_whole(number, tag, value, out),
         }
     }
 
@@ -965,6 +1041,12 @@ impl Ledger {
             } => records.enter_load(area, party, obligation, tally),
             Record::Hour { .. } => unreachable!("taken by try_whole"),
             Record::Owner { unit, party } => records.enter_owner(unit, party, tally),
+            Record::Day {
+                unit,
+                month,
+                day,
+                marks,
+            } => records.enter_day(unit, (month, day), marks, tally),
             Record::Post { area } => self.post(area, out),
         }
     }
@@ -993,6 +1075,17 @@ impl Ledger {
         }
         tally.lines(area, &money, &lines);
         Ok(())
+    }
+
+    #[cold]
+    #[inline(never)]
+    fn refuse_whole(&mut self, number: Refusal, tag: u8, value: &[u8], out: &mut Vec<u8>) {
+        match tag {
+            OWNER => self.tally.owner_refused(number, value, &self.records.units),
+            DAY => self.tally.day_refused(number, value, &self.records),
+            _ => {}
+        }
+        self.refuse(number, out);
     }
 
     #[cold]
@@ -1116,10 +1209,49 @@ branches! {
     OwnerRefused6Before7 "Owner refused with 6, its unit not entered",
     OwnerRefused7 "Owner refused with 7",
     OwnerAfterUnit "Owner entered after its unit, refused with 7 before it",
+    // 02, Item 3.
+    DayAllPeaks "Day of a peak day, all its peak hours marked",
+    DaySomePeaks "Day of a peak day, some of its peak hours marked",
+    DayNoPeaks "Day of a peak day, none of its peak hours marked",
+    DayOnWeekend "Day of a weekend in a season",
+    DayOnHoliday "Day of a holiday in a season, not on a weekend",
+    DayOnKept "Day on which a holiday is kept in a season",
+    DayOutside "Day outside the seasons",
+    DayInWinter "Day of a peak day in winter",
+    DayAllMarks "Day with all marks",
+    DayNoMarks "Day without marks",
+    DayFirst "Day of 1 June",
+    DayLast "Day of 31 May",
+    DayOfLeap "Day of 29 February",
+    DayBeforeAll "Day of a unit without hours",
+    DayAfterDay "Day after a Day",
+    DayAfterHour "Day after an Hour",
+    DayAtOnce "Day after the hour ending 24 of the day before",
+    HourAfterDay "Hour after a Day, at a post",
+    DayTo49 "SH 49 by a Day before the post",
+    DayTo50 "SH 50 by a Day before the post",
+    DayOver50 "SH from below 50 to above it by a Day before the post",
+    DayCut "Day cut by the end",
+    DayRefused3 "Day refused with 3",
+    DayRefused4 "Day refused with 4",
+    DayOfUnit0 "Day of unit 0",
+    DayOfUnit33 "Day of unit 33",
+    DayOfMonth0 "Day of month 0",
+    DayOfMonth13 "Day of month 13",
+    DayOfNoDay "Day of day 0 of a month",
+    DayPastMonth "Day past the end of its month, up to 31",
+    DayOfNoLeap "Day of 29 February in a common year",
+    DayRefused6Before7 "Day refused with 6, its unit not entered",
+    DayRefused7 "Day refused with 7",
+    DayRefused10AtEnd "Day refused with 10, the last hour at the end of its date",
+    DayRefused10Within "Day refused with 10, the last hour within its date",
+    DayRefused10Later "Day refused with 10, the last hour after its date",
+    HourAfterRefused "hours of a date accepted after its Day was refused with 10, at a post",
 }
 
 struct Tally {
     counts: [u64; BRANCH_NAMES.len()],
+    y: u32,
     /// Accepted posts of each area.
     posts: [u64; AREAS],
     /// The places of hours that 02, Item 1 decides, in time order, and what each counts as.
@@ -1135,6 +1267,10 @@ struct Tally {
     replaced: [[bool; PARTIES]; AREAS],
     /// Units of which an Owner was refused with 7.
     owner_too_early: [bool; UNITS],
+    /// The place after the last Day of each unit; 0 without one.
+    after_day: [u16; UNITS],
+    /// The place after the last hour of each unit when a Day of its date was refused with 10; 0 without one.
+    refused_within: [u16; UNITS],
 }
 
 /// Which parties have a part of V, a share above 0 and a share below 0 in the area; and how many ready
@@ -1166,6 +1302,7 @@ impl Tally {
     fn new() -> Tally {
         Tally {
             counts: [0; BRANCH_NAMES.len()],
+            y: 0,
             posts: [0; AREAS],
             watched: Vec::new(),
             looked_at: [0; UNITS],
@@ -1174,6 +1311,8 @@ impl Tally {
             saved: [[false; PARTIES]; AREAS],
             replaced: [[false; PARTIES]; AREAS],
             owner_too_early: [false; UNITS],
+            after_day: [0; UNITS],
+            refused_within: [0; UNITS],
         }
     }
 
@@ -1188,6 +1327,7 @@ impl Tally {
     /// For the year: the hours that would be peak hours if no holiday were kept there, and those that
     /// are peak hours because 19 June is no holiday yet. The kept 31 December is in no season.
     fn year(&mut self, y: u32, year: &Year) {
+        self.y = y;
         let in_june = [18, 19, 20].map(|day| (y, 6, day));
         let others = [(y, 7, 3), (y, 7, 5), (y + 1, 1, 2)];
         for date in in_june.into_iter().chain(others) {
@@ -1435,5 +1575,103 @@ impl Tally {
         let changed = lines.iter().any(|&line| line != 0);
         self.add_if(again && changed, Branch::PostChanged);
         self.posts[area] += 1;
+    }
+    /// For an accepted Day, with the place after the unit's last hour before it and after it.
+    fn day(
+        &mut self,
+        number: usize,
+        (before, after): (u16, u16),
+        (month, of_month): (u8, u8),
+        marks: u32,
+    ) {
+        let season = season_hours(u32::from(month));
+        let is_marked = |hour: &&u16| marked(marks, **hour as u8) == 0;
+        let marked_peaks = season.iter().filter(is_marked).count();
+        let date = (
+            self.y + u32::from(month < 6),
+            u32::from(month),
+            u32::from(of_month),
+        );
+        let free = (!season.is_empty()).then(|| free(date));
+        self.add(match free {
+            None => Branch::DayOutside,
+            Some(Some(Free::Weekend)) => Branch::DayOnWeekend,
+            Some(Some(Free::Holiday)) => Branch::DayOnHoliday,
+            Some(Some(_)) => Branch::DayOnKept,
+            Some(None) if marked_peaks == season.len() => Branch::DayAllPeaks,
+            Some(None) if marked_peaks > 0 => Branch::DaySomePeaks,
+            Some(None) => Branch::DayNoPeaks,
+        });
+        self.add_if(matches!(free, Some(None)) && month < 6, Branch::DayInWinter);
+        self.add_if(marks == 0xFF_FFFF, Branch::DayAllMarks);
+        self.add_if(marks == 0, Branch::DayNoMarks);
+        self.add_if((month, of_month) == (6, 1), Branch::DayFirst);
+        self.add_if((month, of_month) == (5, 31), Branch::DayLast);
+        self.add_if((month, of_month) == (2, 29), Branch::DayOfLeap);
+        self.add(match before {
+            0 => Branch::DayBeforeAll,
+            _ if before == self.after_day[number] => Branch::DayAfterDay,
+            _ => Branch::DayAfterHour,
+        });
+        self.add_if(before > 0 && before + 24 == after, Branch::DayAtOnce);
+        self.after_day[number] = after;
+    }
+
+    #[cold]
+    fn day_refused(&mut self, number: Refusal, value: &[u8], records: &Records) {
+        self.add_if(number == 3, Branch::DayRefused3);
+        self.add_if(number == 4, Branch::DayRefused4);
+        let (&[unit, month, day, ..], Some(year)) = (value, &records.year) else {
+            return;
+        };
+        let entered = key(unit, UNITS)
+            .ok()
+            .map(|unit| (unit, &records.units[unit]));
+        if number == 6 {
+            self.add_if(unit == 0, Branch::DayOfUnit0);
+            self.add_if(unit == 33, Branch::DayOfUnit33);
+            self.add_if(month == 0, Branch::DayOfMonth0);
+            self.add_if(month == 13, Branch::DayOfMonth13);
+            self.add_if(day == 0, Branch::DayOfNoDay);
+            let is_month = (1..=12).contains(&month);
+            self.add_if(is_month && (29..=31).contains(&day), Branch::DayPastMonth);
+            self.add_if((month, day) == (2, 29), Branch::DayOfNoLeap);
+            let missing = matches!(entered, Some((_, None)));
+            self.add_if(missing, Branch::DayRefused6Before7);
+        }
+        self.add_if(number == 7, Branch::DayRefused7);
+        if let (10, Some((place, Some(unit))), Some(day)) = (number, entered, year.day(month, day))
+        {
+            let after = (day + 1) * 24;
+            self.add(match unit.next {
+                next if next < after => Branch::DayRefused10Within,
+                next if next == after => Branch::DayRefused10AtEnd,
+                _ => Branch::DayRefused10Later,
+            });
+            if unit.next < after {
+                self.refused_within[place] = unit.next;
+            }
+        }
+    }
+
+    /// For each unit of the posted area: what its last Day before the post did, and what came after it.
+    fn days(&mut self, year: &Year, number: usize, unit: &Unit) {
+        let after_day = self.after_day[number];
+        self.add_if(after_day > 0 && unit.next > after_day, Branch::HourAfterDay);
+        if after_day > 0 && unit.next == after_day {
+            let in_service = |&&place: &&u16| unit.hours[usize::from(place)] >> 24 <= 2;
+            let before = |place: &&u16| **place < after_day - 24;
+            let sh = year.peak.iter().filter(in_service).count();
+            let sh_before = year.peak.iter().filter(before).filter(in_service).count();
+            self.add_if(sh_before < 49 && sh == 49, Branch::DayTo49);
+            self.add_if(sh_before < 50 && sh == 50, Branch::DayTo50);
+            self.add_if(sh_before < 50 && sh > 50, Branch::DayOver50);
+        }
+        let within = std::mem::take(&mut self.refused_within[number]);
+        if within > 0 {
+            let rest = usize::from(within)..usize::from(within).next_multiple_of(24);
+            let later = unit.hours[rest].iter().any(|&hour| hour != NO_HOUR);
+            self.add_if(later, Branch::HourAfterRefused);
+        }
     }
 }
