@@ -1,5 +1,6 @@
 //! Holds the ledger against what is expected of it.
 
+use crate::days::as_hours;
 use crate::process::{run, Delivery, Outcome};
 use crate::reckoning::Ledger;
 use std::path::Path;
@@ -38,12 +39,29 @@ pub fn reckoned(stream: &[u8]) -> (Vec<u8>, Vec<(&'static str, u64)>) {
 
 pub enum Verdict {
     Agrees,
+    /// The stream has Days.
+    AgreesAsHoursToo,
     Differs(String),
     /// The program did not end in time; more of the kind would take as long.
     Hangs,
 }
 
+/// On the stream, and where that agrees on the one with its Days as Hours, which the second program is held against too.
 pub fn judge(ledger: &Path, stream: &[u8], delivery: Delivery, expected: &[u8]) -> Verdict {
+    let (verdict, as_hours) = (judge_once(ledger, stream, delivery, expected), as_hours(stream, expected));
+    let (Verdict::Agrees, Some((stream, expected))) = (&verdict, as_hours) else { return verdict };
+    let verdict = match first_difference(&reckoned(&stream).0, &expected) {
+        None => judge_once(ledger, &stream, delivery, &expected),
+        Some(difference) => Verdict::Differs(format!("the second program, {difference}")),
+    };
+    match verdict {
+        Verdict::Agrees => Verdict::AgreesAsHoursToo,
+        Verdict::Differs(difference) => Verdict::Differs(format!("with its Days as Hours, {difference}")),
+        verdict => verdict,
+    }
+}
+
+fn judge_once(ledger: &Path, stream: &[u8], delivery: Delivery, expected: &[u8]) -> Verdict {
     match run(ledger, stream, delivery) {
         Ok(outcome) if outcome.hung => Verdict::Hangs,
         Ok(outcome) => match difference(&outcome, expected) {

@@ -1,14 +1,20 @@
-//! Damaged streams: the worked example, with an owner, spoiled at every byte, wrong tags and lengths, and garbage.
+//! Damaged streams: the worked example, with an owner and a Day, spoiled at every byte, wrong tags and lengths, and garbage.
 
 use crate::fixed::standing_book;
 use crate::random::Random;
 use crate::records::{frame, past_listed, right_lengths, stream, Record, Record::*, LONGEST, WORKED_EXAMPLE};
 use crate::sketch::{random_book, Shape};
 
-/// The worked example with a ready set whose excess lowers what its owner is charged, before the posts.
+/// The worked example with a ready set whose excess lowers what its owner is charged, an hour out and a Day, before the
+/// posts.
 fn example() -> Vec<Record> {
-    let ready = [Unit { unit: 3, area: 1, icap: 200_000, e: 0, f: 9_000, g: 0, class: 0 }, Owner { unit: 3, party: 5 }];
-    [&WORKED_EXAMPLE[..8], &ready, &WORKED_EXAMPLE[8..]].concat()
+    let more = [
+        Unit { unit: 3, area: 1, icap: 200_000, e: 0, f: 9_000, g: 0, class: 0 },
+        Owner { unit: 3, party: 5 },
+        Hour { unit: 2, month: 6, day: 1, ending: 15, kind: 3, derating: 0 },
+        Day { unit: 2, month: 6, day: 2, marks: 0x82_9c41 },
+    ];
+    [&WORKED_EXAMPLE[..8], &more, &WORKED_EXAMPLE[8..]].concat()
 }
 
 pub fn bit_flips() -> Vec<Vec<u8>> {
@@ -87,7 +93,7 @@ pub fn tags() -> Vec<Vec<u8>> {
         frame(&mut out, tag, value.len() as u16, &value);
         out
     };
-    let places = [0, 1, 3, 5, 7, 9, 10];
+    let places = [0, 1, 3, 5, 7, 9, 10, 11];
     places.into_iter().flat_map(|at| (0..=255).map(move |tag| replaced(at, |record| framed(record, tag)))).collect()
 }
 

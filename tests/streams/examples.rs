@@ -1,10 +1,10 @@
-//! The examples of document 001, the figures of the paper, the dates of 02, Item 1, and the sets of 02, Item 2, with
-//! lines that come from them alone.
+//! The examples of document 001, the figures of the paper, the dates of 02, Item 1, the sets of 02, Item 2, and the Days
+//! of 02, Item 3, with lines that come from them alone.
 
 use crate::calendar::peak_slots;
 use crate::fixed::{hour, whole_year};
-use crate::ready;
 use crate::records::{Record, Record::*, WORKED_EXAMPLE};
+use crate::{days, ready};
 
 pub struct Example {
     pub name: &'static str,
@@ -36,6 +36,7 @@ pub fn all() -> Vec<Example> {
     ];
     examples.extend(dates_of_item_1());
     examples.extend(ready::examples());
+    examples.extend(days::examples());
     examples
 }
 
@@ -172,7 +173,7 @@ fn example_2_net() -> Example {
 ///
 /// Without hours S is 999,990. The first hour in service ends that; an hour out after it makes S 500,000.
 /// For 365 days a watt costs 18.25 cents, for 366 days 18.3.
-fn one_unit(y: u16) -> Vec<Record> {
+pub fn one_unit(y: u16) -> Vec<Record> {
     vec![
         Year { y },
         Area { area: 1, price: 50_000 },

@@ -3,11 +3,17 @@
 use crate::calendar::{date, days, peak_slots, slot_day, slot_ending, slots, FIRST_YEAR, LAST_YEAR, MONTHS};
 use crate::random::Random;
 use crate::ranges::{fields, Field};
-use crate::records::{frame, past_listed, stream, unlisted_tags, Record, Record::*, LONGEST};
+use crate::records::{frame, past_listed, stream, unlisted_tags, Record, Record::*, ALL_MARKS, LONGEST};
 
 pub fn hour(y: u16, unit: u8, slot: u16, kind: u8, derating: u32) -> Record {
     let (month, day) = date(y, slot_day(slot));
     Hour { unit, month, day, ending: slot_ending(slot), kind, derating }
+}
+
+/// The Day record of day `of_year` of delivery year `y`.
+pub fn day(y: u16, unit: u8, of_year: u16, marks: u32) -> Record {
+    let (month, day) = date(y, of_year);
+    Day { unit, month, day, marks }
 }
 
 /// A commitment for the whole delivery year.
@@ -39,6 +45,8 @@ pub fn standing_book(y: u16) -> Vec<Record> {
         records.push(hour(y, 1, slot, 3, 0));
         records.push(hour(y, 3, slot, 1, 1_000_000 + count as u32));
     }
+    // The next peak day, with two of its peak hours.
+    records.push(day(y, 3, slot_day(peak_slots(y)[5]), 0x92_8c35));
     records.extend([Post { area: 1 }, Post { area: 2 }]);
     records
 }
@@ -91,6 +99,7 @@ fn good_records(y: u16) -> Vec<Record> {
         Load { area: 1, party: 8, obligation: 1_000_000 },
         Post { area: 1 },
         Owner { unit: 6, party: 5 },
+        day(y, 3, slot_day(peaks[peaks.len() / 2]), 0xa6_95a3),
     ];
     for kind in 0..=5 {
         let slot = peaks[peaks.len() / 2 + usize::from(kind)];
@@ -158,6 +167,9 @@ fn refused_later(y: u16) -> Vec<Record> {
         hour(y, 1, later, 1, 4_500_000),
         hour(y, 1, past, 0, 0),
         hour(y, 1, past, 1, 4_500_000),
+        day(y, 5, slot_day(later), ALL_MARKS),
+        day(y, 1, slot_day(past), ALL_MARKS),
+        day(y, 5, slot_day(past), 0),
     ]
 }
 
@@ -202,6 +214,15 @@ fn odd_values(y: u16) -> Vec<Record> {
         Owner { unit: 5, party: 5 },  // 7
         Owner { unit: 5, party: 0 },  // 6 and 7
         Owner { unit: 5, party: 17 }, // 6 and 7
+        Day { unit: 0, month: 7, day: 1, marks: 1 },
+        Day { unit: 33, month: 7, day: 1, marks: 1 },
+        Day { unit: 1, month: 0, day: 1, marks: 1 },
+        Day { unit: 1, month: 13, day: 1, marks: 1 },
+        Day { unit: 1, month: 7, day: 0, marks: 1 },
+        Day { unit: 1, month: 7, day: 32, marks: 1 },
+        Day { unit: 1, month: 6, day: 31, marks: ALL_MARKS },
+        Day { unit: 5, month: 2, day: 30, marks: 1 }, // 6 and 7
+        Day { unit: 1, month: 6, day: 1, marks: 1 },  // 10, the last hour within its date
         strange_date(0, 0),
         strange_date(1, 4_500_000), // 6 and 9
     ];
@@ -216,15 +237,18 @@ fn odd_values(y: u16) -> Vec<Record> {
     records
 }
 
-/// The days of the month 0 to 33 and 255 in every month, and in months that do not exist.
+/// The days of the month 0 to 33 and 255 in every month, and in months that do not exist: an hour of each of one unit,
+/// and the Day of each of another.
 pub fn dates(index: usize) -> Vec<u8> {
     let y = FIRST_YEAR + index as u16;
     let mut records = book_of_one(y);
+    records.push(Unit { unit: 2, area: 1, icap: 4_000_000, e: 0, f: 0, g: 0, class: 0 });
     for (order, month) in MONTHS.into_iter().chain([0, 13, 255]).enumerate() {
         for day in (0..=33).chain([255]) {
             let ending = [1, 24, 15, 8][(order + usize::from(day)) % 4];
             let kind = if day % 3 == 0 { 3 } else { 0 };
             records.push(Hour { unit: 1, month, day, ending, kind, derating: 0 });
+            records.push(Day { unit: 2, month, day, marks: 0 });
         }
         records.push(Post { area: 1 });
     }

@@ -1,7 +1,7 @@
 //! Streams longer than any likely read buffer.
 
-use crate::calendar::slots;
-use crate::fixed::{hour, whole_year};
+use crate::calendar::{days, slots};
+use crate::fixed::{day, hour, whole_year};
 use crate::random::Random;
 use crate::records::{frame, past_listed, stream, Format, Record, Record::*, FORMATS, HEAD, LONGEST, WORKED_EXAMPLE};
 use crate::sketch::{random_book, Shape};
@@ -58,6 +58,7 @@ pub fn straddlers() -> [Record; FORMATS.len()] {
         Load { area: 1, party: 12, obligation: 99_999 },
         Post { area: 1 },
         Owner { unit: 4, party: 5 },
+        day(2010, 2, days(2010) - 1, 0x12_3456),
     ]
 }
 

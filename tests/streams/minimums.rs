@@ -6,7 +6,7 @@ use crate::report::Report;
 /// For a name that the table does not know.
 const USUAL: u64 = 500;
 
-const MINIMUMS: [(&str, u64); 90] = [
+const MINIMUMS: [(&str, u64); 128] = [
     ("refusal 1", 500),
     ("refusal 2", 10_000),
     ("refusal 3", 2_000),
@@ -97,6 +97,44 @@ const MINIMUMS: [(&str, u64); 90] = [
     ("Owner refused with 6, its unit not entered", 500),
     ("Owner refused with 7", 2_000),
     ("Owner entered after its unit, refused with 7 before it", 500),
+    ("Day of a peak day, all its peak hours marked", 10_000),
+    ("Day of a peak day, some of its peak hours marked", 10_000),
+    ("Day of a peak day, none of its peak hours marked", 10_000),
+    ("Day of a weekend in a season", 10_000),
+    ("Day of a holiday in a season, not on a weekend", 2_000),
+    ("Day on which a holiday is kept in a season", 200),
+    ("Day outside the seasons", 10_000),
+    ("Day of a peak day in winter", 10_000),
+    ("Day with all marks", 10_000),
+    ("Day without marks", 10_000),
+    ("Day of 1 June", 500),
+    ("Day of 31 May", 200),
+    ("Day of 29 February", 100),
+    ("Day of a unit without hours", 2_000),
+    ("Day after a Day", 10_000),
+    ("Day after an Hour", 10_000),
+    ("Day after the hour ending 24 of the day before", 10_000),
+    ("Hour after a Day, at a post", 10_000),
+    ("SH 49 by a Day before the post", 100),
+    ("SH 50 by a Day before the post", 200),
+    ("SH from below 50 to above it by a Day before the post", 500),
+    ("Day cut by the end", 30),
+    ("Day refused with 3", 1_000),
+    ("Day refused with 4", 500),
+    ("Day of unit 0", 500),
+    ("Day of unit 33", 200),
+    ("Day of month 0", 1_000),
+    ("Day of month 13", 1_000),
+    ("Day of day 0 of a month", 1_000),
+    ("Day past the end of its month, up to 31", 500),
+    ("Day of 29 February in a common year", 30),
+    ("Day refused with 6, its unit not entered", 200),
+    ("Day refused with 7", 2_000),
+    ("Day refused with 10, the last hour at the end of its date", 500),
+    ("Day refused with 10, the last hour within its date", 2_000),
+    ("Day refused with 10, the last hour after its date", 2_000),
+    ("hours of a date accepted after its Day was refused with 10, at a post", 500),
+    ("stream, agrees with its Days as Hours too", 10_000),
 ];
 
 pub fn check(counts: &Counts, report: &mut Report) {

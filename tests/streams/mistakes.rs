@@ -1,6 +1,6 @@
 //! What goes wrong in a random book.
 
-use crate::calendar::slots;
+use crate::calendar::{slot_day, slots};
 use crate::ranges::fields;
 use crate::records::{frame, past_listed, wrong_lengths, Record};
 use crate::sketch::Sketch;
@@ -65,6 +65,7 @@ impl Sketch {
             }
             Record::Load { party, obligation, .. } => Record::Load { area, party, obligation },
             Record::Owner { party, .. } => Record::Owner { unit: strange, party },
+            Record::Day { month, day, marks, .. } => Record::Day { unit: strange, month, day, marks },
             _ => Record::Post { area },
         };
         record.write(&mut self.out);
@@ -96,7 +97,7 @@ impl Sketch {
         }
     }
 
-    /// The last hour again, or one some hours, days or months before it.
+    /// The last hour again, or one some hours, days or months before it; or the Day of that hour.
     fn not_later(&mut self) {
         if self.sets.is_empty() {
             return;
@@ -107,7 +108,8 @@ impl Sketch {
             return;
         }
         let back = self.random.pick(&[1, 1, 2, 5, 23, 24, 25, 24 * 31, 24 * 200]);
-        let record = self.hour_at(at, next.saturating_sub(back));
+        let slot = next.saturating_sub(back);
+        let record = if self.random.percent(25) { self.day_at(at, slot_day(slot)) } else { self.hour_at(at, slot) };
         record.write(&mut self.out);
     }
 

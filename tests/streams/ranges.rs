@@ -1,7 +1,7 @@
 //! The ranges of the paper's table, so that a field can be put at its ends and past them.
 
 use crate::calendar::{calendar_year, days, month_length};
-use crate::records::{frame, FieldFormat, Record};
+use crate::records::{frame, FieldFormat, Record, ALL_MARKS};
 
 /// Where a number stands in a record's value, and its range.
 #[derive(Clone, Copy)]
@@ -26,7 +26,7 @@ pub fn fields(record: &Record, y: u16) -> Vec<Field> {
     fields
 }
 
-/// The ranges that hang on other fields or on the year, in the order of their fields.
+/// The ranges that hang on other fields or on the year, and of any number, in the order of their fields.
 fn ruled_ranges(record: &Record, y: u16) -> Vec<(u32, u32)> {
     match *record {
         Record::Commitment { first, last, .. } => vec![(0, last.into()), (first.into(), u32::from(days(y)) - 1)],
@@ -35,6 +35,9 @@ fn ruled_ranges(record: &Record, y: u16) -> Vec<(u32, u32)> {
             (1, month_length(calendar_year(y, month), month).into()),
             if kind == 1 { (1, u32::MAX) } else { (0, 0) },
         ],
+        Record::Day { month, .. } => {
+            vec![(1, 12), (1, month_length(calendar_year(y, month), month).into()), (0, ALL_MARKS)]
+        }
         _ => Vec::new(),
     }
 }

@@ -1,4 +1,4 @@
-//! The records of the paper's table and of 02, Item 2, written as bytes.
+//! The records of the paper's table and of 02, Items 2 and 3, written as bytes.
 
 use Record::*;
 
@@ -25,7 +25,7 @@ const fn field(width: usize, low: u32, high: u32) -> FieldFormat {
     FieldFormat { width, range: Some((low, high)) }
 }
 
-/// The range hangs on other fields or on the year.
+/// The range hangs on other fields or on the year, or any number will do.
 const fn ruled(width: usize) -> FieldFormat {
     FieldFormat { width, range: None }
 }
@@ -35,8 +35,8 @@ const UNIT: FieldFormat = field(1, 1, 32);
 const PARTY: FieldFormat = field(1, 1, 16);
 const RATE: FieldFormat = field(4, 0, 99_999);
 
-/// The paper's table, with 02, Item 2. `tests/host/format` reads it from this file.
-pub const FORMATS: [Format; 8] = [
+/// The paper's table, with 02, Items 2 and 3. `tests/host/format` reads it from this file.
+pub const FORMATS: [Format; 9] = [
     Format { name: "Year", tag: 0x01, fields: &[field(2, 2007, 2099)] },
     Format { name: "Area", tag: 0x02, fields: &[AREA, field(4, 0, 50_000)] },
     Format { name: "Unit", tag: 0x03, fields: &[UNIT, AREA, field(4, 1, 5_000_000), RATE, RATE, RATE, field(1, 0, 2)] },
@@ -49,6 +49,7 @@ pub const FORMATS: [Format; 8] = [
     Format { name: "Load", tag: 0x06, fields: &[AREA, PARTY, field(4, 0, 100_000_000)] },
     Format { name: "Post", tag: 0x07, fields: &[AREA] },
     Format { name: "Owner", tag: 0x08, fields: &[UNIT, PARTY] },
+    Format { name: "Day", tag: 0x09, fields: &[UNIT, ruled(1), ruled(1), ruled(3)] },
 ];
 
 impl Format {
@@ -82,6 +83,9 @@ pub fn past_listed() -> u8 {
     FORMATS.iter().map(|format| format.tag + 1).max().expect("the table has rows")
 }
 
+/// The marks of a Day in service from its first hour to its last.
+pub const ALL_MARKS: u32 = 0xff_ffff;
+
 /// The fields of a record, in the order of the table; `icap` is I. Nothing is checked here.
 #[derive(Clone, Copy, Debug, PartialEq)]
 pub enum Record {
@@ -93,6 +97,7 @@ pub enum Record {
     Load { area: u8, party: u8, obligation: u32 },
     Post { area: u8 },
     Owner { unit: u8, party: u8 },
+    Day { unit: u8, month: u8, day: u8, marks: u32 },
 }
 
 impl Record {
@@ -113,6 +118,7 @@ impl Record {
             Load { area, party, obligation } => ("Load", vec![area.into(), party.into(), obligation]),
             Post { area } => ("Post", vec![area.into()]),
             Owner { unit, party } => ("Owner", vec![unit.into(), party.into()]),
+            Day { unit, month, day, marks } => ("Day", vec![unit.into(), month.into(), day.into(), marks]),
         }
     }
 

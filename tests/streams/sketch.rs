@@ -3,8 +3,9 @@
 //! The sketch knows what it has entered only so far as to make good records likely; it settles nothing.
 
 use crate::calendar::{date, days, peak_slots, slot_day, slot_ending, slots, Slot, FIRST_YEAR, LAST_YEAR};
+use crate::fixed::day;
 use crate::random::Random;
-use crate::records::Record;
+use crate::records::{Record, ALL_MARKS};
 
 /// How large a random book is and how it goes wrong.
 pub struct Shape {
@@ -19,11 +20,22 @@ pub struct Shape {
     pub mistakes: usize,
     /// Hours follow each other without a gap, peak or not.
     pub every_hour: bool,
+    /// Chance in a hundred that a Day stands where an hour would.
+    pub days: usize,
 }
 
 impl Shape {
-    pub const USUAL: Shape =
-        Shape { areas: 2, parties: 4, sets: 4, commitments: 7, rounds: 3, runs: 70, mistakes: 3, every_hour: false };
+    pub const USUAL: Shape = Shape {
+        areas: 2,
+        parties: 4,
+        sets: 4,
+        commitments: 7,
+        rounds: 3,
+        runs: 70,
+        mistakes: 3,
+        every_hour: false,
+        days: 2,
+    };
 }
 
 pub struct Set {
@@ -192,11 +204,23 @@ impl Sketch {
         Record::Hour { unit: set.unit, month, day, ending, kind, derating }
     }
 
+    /// Marks by the manner of the set, all in service or out now and then.
+    pub fn day_at(&mut self, at: usize, of_year: u16) -> Record {
+        let weights = [self.sets[at].kinds[1..].iter().sum::<usize>() + 1, self.sets[at].kinds[0] + 1];
+        let marks = match self.random.below(8) {
+            0 => 0,
+            1 => ALL_MARKS,
+            2 => self.random.between(0, ALL_MARKS),
+            _ => (0..24).fold(0, |marks, hour| marks | (self.random.weighted(&weights) as u32) << hour),
+        };
+        day(self.y, self.sets[at].unit, of_year, marks)
+    }
+
     /// Any good record that the book as it is would probably accept; a Unit or Year in it is a second one.
     pub fn any(&mut self) -> Record {
         let area = self.random.pick(&self.areas);
         let at = self.random.below(self.sets.len().max(1));
-        match self.random.below(17) {
+        match self.random.below(19) {
             0 => Record::Year { y: self.y },
             1..=2 => self.area(area),
             3..=5 => self.unit(1),
@@ -207,6 +231,10 @@ impl Sketch {
             12..=16 if !self.sets.is_empty() => {
                 let slot = self.sets[at].next.min(slots(self.y) - 1);
                 self.hour_at(at, slot)
+            }
+            17..=18 if !self.sets.is_empty() => {
+                let next = self.sets[at].next.div_ceil(24);
+                self.day_at(at, next.min(days(self.y) - 1))
             }
             _ => self.load(area),
         }
@@ -270,7 +298,7 @@ impl Sketch {
         for at in 0..self.sets.len() {
             if self.random.percent(shape.runs) {
                 let length = self.run_length(shape);
-                self.run(at, length, shape.every_hour);
+                self.run(at, length, shape);
             }
         }
         for _ in 0..self.random.below(3) {
@@ -298,17 +326,29 @@ impl Sketch {
         }
     }
 
-    fn run(&mut self, at: usize, length: Option<u32>, every_hour: bool) {
+    fn run(&mut self, at: usize, length: Option<u32>, shape: &Shape) {
         let aim = self.random.between(48, 52);
         for count in 0..length.unwrap_or(100) {
             let enough = length.is_none() && count > 0 && self.sets[at].service >= aim;
-            let Some(slot) = self.next_slot(at, every_hour).filter(|_| !enough) else { return };
-            let record = self.hour_at(at, slot);
-            self.sets[at].next = slot + 1;
-            if let Record::Hour { kind: 0..=2, .. } = record {
-                self.sets[at].service += 1;
-            }
+            let Some(slot) = self.next_slot(at, shape.every_hour).filter(|_| !enough) else { return };
+            let of_year = slot.max(self.sets[at].next.next_multiple_of(24)) / 24;
+            let is_day = of_year < days(self.y) && self.random.percent(shape.days);
+            let record = if is_day { self.day_at(at, of_year) } else { self.hour_at(at, slot) };
+            self.sets[at].next = if is_day { of_year * 24 + 24 } else { slot + 1 };
+            self.sets[at].service += self.in_service(&record, of_year);
             self.put(record);
+        }
+    }
+
+    /// How many hours of a record are in service: of an Hour any, of a Day the peak hours.
+    fn in_service(&self, record: &Record, of_year: u16) -> u32 {
+        match *record {
+            Record::Hour { kind: 0..=2, .. } => 1,
+            Record::Day { marks, .. } => {
+                let peaks = peak_slots(self.y).iter().filter(|&&slot| slot_day(slot) == of_year);
+                peaks.map(|&slot| marks >> (slot % 24) & 1).sum()
+            }
+            _ => 0,
         }
     }
 

@@ -5,7 +5,7 @@ use crate::process::Delivery;
 use crate::random::Random;
 use crate::report::keep;
 use crate::sketch::{random_book, Shape};
-use crate::{damaged, fixed, holidays, long, money, owners};
+use crate::{damaged, days, fixed, holidays, long, money, owners};
 use std::path::Path;
 use std::sync::atomic::{AtomicBool, AtomicUsize, Ordering};
 use std::thread;
@@ -58,11 +58,13 @@ pub fn all() -> Vec<Family> {
         Family::made("money short, even and left over", 2_400, money::balances),
         Family::made("figures as large as can be", 160, money::extremes),
         Family::made("ready sets and their owners", owners::BOOKS, owners::books),
+        Family::made("Hours and Days", days::BOOKS, days::books),
         Family::listed("ends of ranges", fixed::ends()),
         Family::listed("rows of refusal", fixed::rows()),
         Family::made("dates of every year", years, fixed::dates),
         Family::made("every hour of every year", years, fixed::peaks).delivered(Delivery::File),
         Family::made("hours about the holidays of every year", years, holidays::about),
+        Family::made("every date of every year, most as Days", years, days::every_date).delivered(Delivery::File),
         Family::listed("worked example, each bit flipped", damaged::bit_flips()),
         Family::listed("fuller book, each bit flipped", damaged::bit_flips_of_a_fuller_book()),
         Family::listed("worked example, each byte changed", damaged::other_bytes()),
@@ -89,6 +91,7 @@ fn books(index: usize) -> Vec<u8> {
         commitments: random.pick(&[2, 4, 6, 8, 12]),
         rounds: random.pick(&[1, 2, 3, 4]),
         mistakes: random.pick(&[1, 3, 10]),
+        days: random.pick(&[0, 0, 2, 8]),
         ..Shape::USUAL
     };
     random_book(random, &shape)
@@ -174,6 +177,7 @@ impl Family {
             findings.counts.add(&counts);
             match judge(ledger, &stream, self.delivery, &expected) {
                 Verdict::Agrees => {}
+                Verdict::AgreesAsHoursToo => findings.counts.add(&[("stream, agrees with its Days as Hours too", 1)]),
                 Verdict::Differs(difference) => findings.differs(index, difference),
                 Verdict::Hangs => {
                     hangs.store(true, Ordering::Relaxed);

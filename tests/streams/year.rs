@@ -1,22 +1,32 @@
 //! A whole delivery year of 32 units in 8 areas, every record of it accepted.
 
 use crate::calendar::{date, days, slot_day, slot_ending, slots};
-use crate::fixed::hour;
+use crate::fixed::{day, hour};
 use crate::random::Random;
 use crate::records::{stream, Record, Record::*};
 
 const AREAS: u8 = 8;
 const UNITS: u8 = 32;
 
+/// How a set's hours are sent; a Day's marks are set where the set is in service, not derated.
+#[derive(Clone, Copy)]
+pub enum Sent {
+    AsHours,
+    AsDays,
+}
+
 /// The set-up, then each hour of all units, and posts of all areas at the end of each month.
-pub fn whole(y: u16) -> Vec<u8> {
+pub fn whole(y: u16, sent: Sent) -> Vec<u8> {
     let mut random = Random::for_stream("whole year", usize::from(y));
     let mut records = set_up(y, &mut random);
     let mut fleet: Vec<Running> = units(&records).map(|(unit, icap)| Running::new(unit, icap)).collect();
     for slot in 0..slots(y) {
         for set in &mut fleet {
             set.step(&mut random);
-            records.push(hour(y, set.unit, slot, set.kind, set.derating));
+            match sent {
+                Sent::AsHours => records.push(hour(y, set.unit, slot, set.kind, set.derating)),
+                Sent::AsDays => records.extend(set.day_at_its_end(y, slot)),
+            }
         }
         if ends_month(y, slot) {
             records.extend((1..=AREAS).map(|area| Post { area }));
@@ -66,11 +76,18 @@ struct Running {
     icap: u32,
     kind: u8,
     derating: u32,
+    /// Of the hours of the date so far.
+    marks: u32,
 }
 
 impl Running {
     fn new(unit: u8, icap: u32) -> Running {
-        Running { unit, icap, kind: 0, derating: 0 }
+        Running { unit, icap, kind: 0, derating: 0, marks: 0 }
+    }
+
+    fn day_at_its_end(&mut self, y: u16, slot: u16) -> Option<Record> {
+        self.marks |= u32::from(self.kind == 0) << (slot_ending(slot) - 1);
+        (slot_ending(slot) == 24).then(|| day(y, self.unit, slot_day(slot), std::mem::take(&mut self.marks)))
     }
 
     fn step(&mut self, random: &mut Random) {
