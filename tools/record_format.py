@@ -1,14 +1,16 @@
 """The record format, once, for the tools. tests/host/format holds it to crates/records/specs/Format.antt."""
 
 import collections
-import struct
+import itertools
+
+import hour_marks
 
 HEADER_BYTES = 3
 LONGEST_VALUE = 32
 
 # low and high are the ends of the range, where it hangs on nothing but the field; otherwise None.
-# A field with a default may be left out of a text line.
-Field = collections.namedtuple("Field", "name width low high default", defaults=(None, None, None))
+# A field with a default may be left out of a text line. The number of one with marks is the marks of a day.
+Field = collections.namedtuple("Field", "name width low high default marks", defaults=(None, None, None, False))
 
 
 class Kind:
@@ -17,15 +19,22 @@ class Kind:
     def __init__(self, name, tag, *fields):
         self.name, self.tag, self.fields = name, tag, fields
         self.word = name.lower()
-        self.value = struct.Struct(">" + "".join({1: "B", 2: "H", 4: "I"}[field.width] for field in fields))
-        self.length = self.value.size
-        self.header = struct.pack(">BH", tag, self.length)
+        ends = list(itertools.accumulate((field.width for field in fields), initial=HEADER_BYTES))
+        self.places = [slice(*place) for place in itertools.pairwise(ends)]
+        self.length = ends[-1] - HEADER_BYTES
+        self.header = bytes([tag]) + self.length.to_bytes(2, "big")
 
     def encode(self, numbers):
-        return self.header + self.value.pack(*numbers)
+        values = (number.to_bytes(field.width, "big") for field, number in zip(self.fields, numbers, strict=True))
+        return self.header + b"".join(values)
 
     def decode(self, record):
-        return self.value.unpack_from(record, HEADER_BYTES)
+        return [int.from_bytes(record[place], "big") for place in self.places]
+
+    def texts(self, record):
+        """The numbers of a record as they stand in a text line."""
+        return [hour_marks.text_of(number) if field.marks else str(number)
+                for field, number in zip(self.fields, self.decode(record))]
 
 
 KINDS = (
@@ -65,6 +74,11 @@ KINDS = (
     Kind("Owner", 0x08,
          Field("unit", 1, 1, 32),
          Field("party", 1, 1, 16)),
+    Kind("Day", 0x09,
+         Field("unit", 1, 1, 32),
+         Field("month", 1),
+         Field("day", 1),
+         Field("marks", 3, marks=True)),
 )
 KIND_OF_WORD = {kind.word: kind for kind in KINDS}
 KIND_OF_TAG = {kind.tag: kind for kind in KINDS}

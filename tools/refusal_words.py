@@ -36,7 +36,7 @@ def describe(record):
     kind = kind_of(record)
     if kind is None:
         return f"tag 0x{record[0]:02x}"
-    words = " ".join(f"{name} {number}" for name, number in numbers_of(record).items())
+    words = " ".join(f"{field.name} {text}" for field, text in zip(kind.fields, kind.texts(record)))
     first = kind.fields[0].name
     if first.endswith(kind.word):  # "unit 1", and not "unit unit 1"
         return words.removeprefix(first.removesuffix(kind.word))
@@ -79,9 +79,12 @@ def outside_own_range(record):
             yield f"{field.name} is {number}, and its range is {field.low} to {field.high}"
 
 
-def wrong_in_hour(month, day, kind, derating):
+def wrong_in_date(month, day):
     if not 1 <= day <= MOST_DAYS.get(month, 0):
         yield f"month {month} day {day} is not a date"
+
+
+def wrong_in_hour(kind, derating):
     if kind == 1 and derating == 0:
         yield "derating is 0, and for kind 1 it is at least 1"
     if kind in (0, 2, 3, 4, 5) and derating != 0:
@@ -114,9 +117,11 @@ def why_value(record):
         return None
     numbers = numbers_of(record)
     wrong = list(outside_own_range(record))
-    if name == "Hour":
+    if name in ("Hour", "Day"):
         date = numbers["month"], numbers["day"]
-        wrong += wrong_in_hour(*date, numbers["kind"], numbers["derating"])
+        wrong += wrong_in_date(*date)
+        if name == "Hour":
+            wrong += wrong_in_hour(numbers["kind"], numbers["derating"])
         wrong = wrong or left_to_the_year(*date)
     if name == "Commitment":
         wrong += wrong_in_commitment(numbers["first day"], numbers["last day"])
@@ -129,14 +134,14 @@ def why_value(record):
 def why_not_entered(record):
     if name_of(record) in ("Unit", "Load", "Post"):
         return f"area {numbers_of(record)['area']} is not entered"
-    if name_of(record) in ("Commitment", "Hour", "Owner"):
+    if name_of(record) in ("Commitment", "Hour", "Owner", "Day"):
         return f"unit {numbers_of(record)['unit']} is not entered"
     return None
 
 
-def for_kind(name, words):
-    """A reason of one kind of record only, with its numbers filled in."""
-    return lambda record: words.format_map(numbers_of(record)) if name_of(record) == name else None
+def for_kinds(**words):
+    """Reasons of these kinds of record only, with their numbers filled in."""
+    return lambda record: words[name_of(record)].format_map(numbers_of(record)) if name_of(record) in words else None
 
 
 OWN_REASONS = {
@@ -145,9 +150,11 @@ OWN_REASONS = {
     3: why_length,
     6: why_value,
     7: why_not_entered,
-    8: for_kind("Unit", "unit {unit} is entered already"),
-    9: for_kind("Hour", "derating {derating} is the capacity of unit {unit} or more"),
-    10: for_kind("Hour", "month {month} day {day} hour ending {hour ending} is not later than the last accepted hour of"
-                         " unit {unit}"),
-    11: for_kind("Post", "money is left over and the obligations of area {area} add up to 0"),
+    8: for_kinds(Unit="unit {unit} is entered already"),
+    9: for_kinds(Hour="derating {derating} is the capacity of unit {unit} or more"),
+    10: for_kinds(Hour="month {month} day {day} hour ending {hour ending} is not later than the last accepted hour of"
+                       " unit {unit}",
+                  Day="hour ending 1, the first of its 24 hours that is refused, is not later than the last accepted hour of"
+                      " unit {unit}; none of the 24 is taken: if that last hour is on this date, send the hours after it as Hours"),
+    11: for_kinds(Post="money is left over and the obligations of area {area} add up to 0"),
 }
