@@ -98,9 +98,9 @@ fn set_up(y: u16) -> Vec<Record> {
     records
 }
 
-/// With the hour ending 15 of 1 June out.
-fn one_out(y: u16) -> Vec<Record> {
-    [&set_up(y)[..], &[out(6, 1, 15), POST]].concat()
+/// With the hour ending 15 of 1 June out and posted.
+fn one_out(name: &'static str, y: u16, more: &[Record], expected: &'static str) -> Example {
+    Example { name, records: [&set_up(y)[..], &[out(6, 1, 15), POST], more].concat(), expected }
 }
 
 fn at(month: u8, day: u8, marks: u32) -> Record {
@@ -165,50 +165,50 @@ fn days_alone() -> Example {
 /// After the Day of 2 June (SH 5) its hour ending 24, its Day and the one before are refused; after the hour ending 1 of
 /// 3 June its Day is. With the hours ending 15 of 3 June SH is 6 and with Friday 4 June, without that hour, 10.
 fn hours_and_days() -> Example {
-    let more = [
-        at(6, 2, SUMMER),
-        running(6, 2, 24),
-        at(6, 2, 0),
-        at(6, 1, ALL_MARKS),
-        POST,
-        running(6, 3, 1),
-        at(6, 3, ALL_MARKS),
-        running(6, 3, 15),
-        POST,
-        at(6, 4, 0x07_8000),
-        running(6, 4, 15),
-        POST,
-    ];
-    Example {
-        name: "item 3: Hours and Days of one unit",
-        records: [&one_out(Y)[..], &more].concat(),
-        expected: "P 1 1 -18249817\nP 1 2 18249817\nR 9 10\nR 10 10\nR 11 10\nP 1 1 15208145\nP 1 2 -15208145\n\
-                   R 14 10\nP 1 1 434514\nP 1 2 -434514\nR 18 10\nP 1 1 948051\nP 1 2 -948051\nE 19 14\n",
-    }
+    one_out(
+        "item 3: Hours and Days of one unit",
+        Y,
+        &[
+            at(6, 2, SUMMER),
+            running(6, 2, 24),
+            at(6, 2, 0),
+            at(6, 1, ALL_MARKS),
+            POST,
+            running(6, 3, 1),
+            at(6, 3, ALL_MARKS),
+            running(6, 3, 15),
+            POST,
+            at(6, 4, 0x07_8000),
+            running(6, 4, 15),
+            POST,
+        ],
+        "P 1 1 -18249817\nP 1 2 18249817\nR 9 10\nR 10 10\nR 11 10\nP 1 1 15208145\nP 1 2 -15208145\n\
+         R 14 10\nP 1 1 434514\nP 1 2 -434514\nR 18 10\nP 1 1 948051\nP 1 2 -948051\nE 19 14\n",
+    )
 }
 
 /// A Day of 1 June is refused after its hour ending 15, and so are the same date without marks and with its later hours
 /// alone: none of their hours counts and the last hour stays, so that the hours ending 16 and 24 follow.
 fn part_of_the_date() -> Example {
-    let more = [
-        at(6, 1, ALL_MARKS),
-        at(6, 1, 0),
-        at(6, 1, 0x07_8000),
-        POST,
-        running(6, 1, 16),
-        POST,
-        at(6, 1, ALL_MARKS),
-        out(6, 1, 24),
-        at(6, 1, ALL_MARKS),
-        at(6, 2, ALL_MARKS),
-        POST,
-    ];
-    Example {
-        name: "item 3: a Day after a part of its date",
-        records: [&one_out(Y)[..], &more].concat(),
-        expected: "P 1 1 -18249817\nP 1 2 18249817\nR 8 10\nR 9 10\nR 10 10\nP 1 1 9124817\nP 1 2 -9124817\n\
-                   R 14 10\nR 16 10\nP 1 1 6517842\nP 1 2 -6517842\nE 18 13\n",
-    }
+    one_out(
+        "item 3: a Day after a part of its date",
+        Y,
+        &[
+            at(6, 1, ALL_MARKS),
+            at(6, 1, 0),
+            at(6, 1, 0x07_8000),
+            POST,
+            running(6, 1, 16),
+            POST,
+            at(6, 1, ALL_MARKS),
+            out(6, 1, 24),
+            at(6, 1, ALL_MARKS),
+            at(6, 2, ALL_MARKS),
+            POST,
+        ],
+        "P 1 1 -18249817\nP 1 2 18249817\nR 8 10\nR 9 10\nR 10 10\nP 1 1 9124817\nP 1 2 -9124817\n\
+         R 14 10\nR 16 10\nP 1 1 6517842\nP 1 2 -6517842\nE 18 13\n",
+    )
 }
 
 /// One hour derated by 400,001 W: P is 599,999. With the five of a Day it is 5,599,999 / 6 = 933,333, with an hour out
@@ -225,20 +225,20 @@ fn forced_hours() -> Example {
 
 /// The Day of another unit counts nothing for this one and does not move its last hour.
 fn another_unit() -> Example {
-    let more = [
-        Day { unit: 2, month: 6, day: 2, marks: ALL_MARKS },
-        Unit { unit: 2, area: 1, icap: 5, e: 0, f: 0, g: 0, class: 0 },
-        Day { unit: 2, month: 6, day: 2, marks: ALL_MARKS },
-        POST,
-        at(6, 2, 0x04_0000),
-        POST,
-        Day { unit: 2, month: 6, day: 2, marks: ALL_MARKS },
-    ];
-    Example {
-        name: "item 3: Days of two units",
-        records: [&one_out(Y)[..], &more].concat(),
-        expected: "P 1 1 -18249817\nP 1 2 18249817\nR 8 7\nP 1 1 9124817\nP 1 2 -9124817\nR 14 10\nE 14 12\n",
-    }
+    one_out(
+        "item 3: Days of two units",
+        Y,
+        &[
+            Day { unit: 2, month: 6, day: 2, marks: ALL_MARKS },
+            Unit { unit: 2, area: 1, icap: 5, e: 0, f: 0, g: 0, class: 0 },
+            Day { unit: 2, month: 6, day: 2, marks: ALL_MARKS },
+            POST,
+            at(6, 2, 0x04_0000),
+            POST,
+            Day { unit: 2, month: 6, day: 2, marks: ALL_MARKS },
+        ],
+        "P 1 1 -18249817\nP 1 2 18249817\nR 8 7\nP 1 1 9124817\nP 1 2 -9124817\nR 14 10\nE 14 12\n",
+    )
 }
 
 /// The first Day of the year is that of a unit without hours, and none comes after the last, nor an hour.
@@ -269,7 +269,7 @@ fn leap_day(y: u16, expected: &'static str) -> Example {
         2010 => "item 3: no 29 February 2011",
         _ => "item 3: no 29 February 2100",
     };
-    Example { name, records: [&one_out(y)[..], &[at(2, 29, ALL_MARKS), POST]].concat(), expected }
+    one_out(name, y, &[at(2, 29, ALL_MARKS), POST], expected)
 }
 
 /// After dates that are none, the last of a unit that is not entered, the hour ending 16 of 1 June still follows.
@@ -277,12 +277,13 @@ fn no_dates() -> Example {
     let none = [(0, 1), (13, 1), (255, 1), (6, 0), (5, 32), (5, 255), (6, 31), (9, 31), (11, 31), (2, 30), (4, 31)];
     let none = none.map(|(month, day)| at(month, day, ALL_MARKS));
     let missing = Day { unit: 2, month: 2, day: 30, marks: ALL_MARKS };
-    Example {
-        name: "item 3: dates that are none",
-        records: [&one_out(Y)[..], &none, &[missing, running(6, 1, 16), POST]].concat(),
-        expected: "P 1 1 -18249817\nP 1 2 18249817\nR 8 6\nR 9 6\nR 10 6\nR 11 6\nR 12 6\nR 13 6\nR 14 6\nR 15 6\n\
-                   R 16 6\nR 17 6\nR 18 6\nR 19 6\nP 1 1 9124817\nP 1 2 -9124817\nE 21 9\n",
-    }
+    one_out(
+        "item 3: dates that are none",
+        Y,
+        &[&none[..], &[missing, running(6, 1, 16), POST]].concat(),
+        "P 1 1 -18249817\nP 1 2 18249817\nR 8 6\nR 9 6\nR 10 6\nR 11 6\nR 12 6\nR 13 6\nR 14 6\nR 15 6\n\
+         R 16 6\nR 17 6\nR 18 6\nR 19 6\nP 1 1 9124817\nP 1 2 -9124817\nE 21 9\n",
+    )
 }
 
 /// Figure f by Days, in class 1: fifty hours out, and g 10,000, so that S is 100,000 below SH 50; at 50 it is 500,000, at
@@ -345,8 +346,7 @@ fn holidays() -> [Example; 7] {
         (2011, "item 3: 1 and 2 January 2012 no", [(7, 5), (1, 1), (1, 2), (1, 3)], of_366),
     ];
     dates.map(|(y, name, dates, expected)| {
-        let shown = dates.into_iter().flat_map(|(month, day)| [at(month, day, ALL_MARKS), POST]);
-        Example { name, records: one_out(y).into_iter().chain(shown).collect(), expected }
+        one_out(name, y, &dates.map(|(month, day)| [at(month, day, ALL_MARKS), POST]).concat(), expected)
     })
 }
 
