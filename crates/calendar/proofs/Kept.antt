@@ -1,5 +1,5 @@
 -- A holiday that falls on a Saturday or a Sunday is kept on the day beside it, and only there, over the ends of years too.
-use Rattle.std.proofs.Common.{◌≡◌, ◌≢◌, ◌⊎◌, inl, inr, refl, sym, ap, Bool, true, false, cond, ◌&&◌, ◌||◌, ℕ, ◌+◌, ◌-◌, ◌%◌, ◌≤◌, ◌<◌, arith, ltb, eqb}
+use Rattle.std.proofs.Common.{◌≡◌, ◌≢◌, ◌⊎◌, inl, inr, refl, sym, ap, Bool, true, false, cond, ◌&&◌, ◌||◌, ℕ, ◌+◌, ◌-◌, ◌%◌, ◌≤◌, arith, ltb, eqb}
 use Rattle.std.proofs.lemmas.Bool.Decides.{nat_tests}
 use Rattle.numbers.specs.Range.{within}
 use Rattle.calendar.specs.Gregorian.{month_days, days_of_month, is_date, Date, next_date, is_earlier}
@@ -7,15 +7,11 @@ use Rattle.calendar.specs.Week.{monday, friday, saturday, sunday, weekday}
 use Rattle.calendar.specs.Holidays.{falls_on, day_before, day_after, kept_on, free_day, has_june_19, is_day}
 use Rattle.calendar.specs.Laws.{is_date_of, day_number_of, next_of, weekday_of, holiday_falls_on, is_holiday_of, KeptBeside, KeptOnce}
 use Rattle.calendar.proofs.Dates.{day_number_steps, next_is_date, day_number_orders}
-use Rattle.calendar.proofs.Weeks.{third_monday_is}
+use Rattle.calendar.proofs.Weeks.{weekday_small, third_monday_is}
 
 pub other_days : (t : Date) → weekday_of t ≢ friday → weekday_of t ≢ monday → is_holiday_of t ≡ holiday_falls_on t
 unfolding free_day kept_on
 other_days t no_friday no_monday = grind (arith, nat_tests)
-
-weekday_small : (t : Date) → weekday_of t < 7
-unfolding weekday
-weekday_small t = omega arith
 
 -- the next date's weekday is the next
 weekday_steps : (t : Date) → is_date_of t ≡ true → weekday_of (next_of t) ≡ (weekday_of t + 1) % 7
@@ -84,7 +80,7 @@ kept_before t y e on falls =
     let ds : is_date_of (before t) ≡ true = before_is_date t e in
     let next : next_of (before t) ≡ t = next_before t y e in
     let is_friday : weekday_of (before t) ≡ friday =
-    omega (arith, ap weekday_of next, weekday_steps (before t) ds, weekday_small (before t), on) in
+    omega (arith, ap weekday_of next, weekday_steps (before t) ds, weekday_small (before t).year (before t).month (before t).day, on) in
     record {
       kept = before t;
       is_kept =
@@ -131,4 +127,4 @@ kept_once t y e weekend falls = go (eqb (weekday_of t) saturday) refl
   where
     go : (b : Bool) → eqb (weekday_of t) saturday ≡ b → KeptOnce t
     go true q = kept_before t y e (grind (arith, nat_tests, q)) falls
-    go false q = kept_after t e (grind (arith, nat_tests, q, weekend, weekday_small t)) falls
+    go false q = kept_after t e (grind (arith, nat_tests, q, weekend, weekday_small t.year t.month t.day)) falls

@@ -1,21 +1,28 @@
 -- Holidays, and the days that they leave for work, by rules that ask no more of a year than the weekdays of its dates, by month
 -- and day, and whether 19 June is a holiday in it. A year of the calendar hands in its own.
 -- 02, Item 1 (5 U.S.C. 6103 and Executive Order 11582), whose holidays replace those of 01, Hours.
-use Rattle.std.specs.Prelude.{Bool, not, ◌&&◌, ◌||◌, ℕ, ◌+◌, ◌-◌, ◌%◌, leb, ltb, eqb}
-use Rattle.calendar.specs.Week.{monday, friday, saturday, weekday}
+use Rattle.std.specs.Prelude.{Bool, not, cond, ◌&&◌, ◌||◌, ℕ, leb, ltb, eqb}
+use Rattle.calendar.specs.Week.{monday, tuesday, wednesday, thursday, friday, saturday, sunday, weekday}
 
 -- day d of month m is day n of month k
 abbrev pub is_day : ℕ → ℕ → ℕ → ℕ → Bool
 is_day k n m d = eqb m k && eqb d n
 
-module _ (weekdays : ℕ → ℕ → ℕ) where
-  -- the first Monday of month m: as many days after the 1st as are left to a Monday
-  unfoldable pub first_monday : ℕ → ℕ
-  first_monday m = 1 + (7 - weekdays m 1) % 7
+-- 02, Item 4: the day of the third Monday, "a choice on the weekday of the 1st". What is no weekday has none, and 0 is no day.
+unfoldable pub day_of_third_monday : ℕ → ℕ
+day_of_third_monday first =
+    cond (eqb first monday) 15
+    (cond (eqb first sunday) 16
+    (cond (eqb first saturday) 17
+    (cond (eqb first friday) 18
+    (cond (eqb first thursday) 19
+    (cond (eqb first wednesday) 20
+    (cond (eqb first tuesday) 21 0))))))
 
-  -- two weeks later
+module _ (weekdays : ℕ → ℕ → ℕ) where
+  -- the third Monday of month m
   unfoldable pub third_monday : ℕ → ℕ
-  third_monday m = first_monday m + 14
+  third_monday m = day_of_third_monday (weekdays m 1)
 
 module _ (june_19 : Bool) where
   -- day d of month m is the day before a holiday that has a date: before 1 January (of the year after), 4 July, 19 June

@@ -1,10 +1,10 @@
 -- What makes the formulas of this folder the calendar.
-use Rattle.std.specs.Prelude.{◌≡◌, ◌≢◌, ◌⊎◌, Bool, true, false, cond, ◌||◌, ℕ, ◌+◌, ◌*◌, ◌≤◌, ◌<◌}
+use Rattle.std.specs.Prelude.{◌≡◌, ◌≢◌, ◌⊎◌, Bool, true, false, cond, ◌||◌, ℕ, ◌+◌, ◌-◌, ◌*◌, ◌%◌, ◌≤◌, ◌<◌}
 use Rattle.numbers.specs.Range.{within}
 use Rattle.calendar.specs.Gregorian.{Date, leap_year, is_date, days_before_year, day_number, is_earlier, next_date}
-use Rattle.calendar.specs.Week.{monday, tuesday, friday, saturday, sunday, weekday}
+use Rattle.calendar.specs.Week.{monday, tuesday, friday, saturday, sunday, weekday, weekday_of_day}
 use Rattle.calendar.specs.Peak.{day_hours, hour_bits, has_hour}
-use Rattle.calendar.specs.Holidays.{third_monday, falls_on, has_june_19, is_holiday}
+use Rattle.calendar.specs.Holidays.{day_of_third_monday, third_monday, falls_on, has_june_19, is_holiday}
 use Rattle.calendar.specs.DeliveryYear.{delivery_days, delivery_day}
 
 abbrev pub is_date_of : Date → Bool
@@ -32,6 +32,19 @@ pub record CalendarLaws : Type 0 where
   pub first_day : (y : ℕ) → delivery_day y 6 1 ≡ 0
   pub last_day : (y : ℕ) → delivery_day y 5 31 + 1 ≡ delivery_days y
   pub day_below : (y m d : ℕ) → delivery_day y m d < delivery_days y
+
+-- The day of the third Monday by the weekday of the month's 1st, in a year of the calendar or in none.
+-- 02, Item 4: "It is shown for each that this day is a Monday and the only one from 15 to 21. Answers are identical."
+pub record ThirdMondayLaws : Type 0 where
+  -- for each of the seven
+  pub from_15 : (first : ℕ) → first ≤ sunday → 15 ≤ day_of_third_monday first
+  pub to_21 : (first : ℕ) → first ≤ sunday → day_of_third_monday first ≤ 21
+  pub is_monday : (first : ℕ) → first ≤ sunday → weekday_of_day first (day_of_third_monday first) ≡ monday
+  pub only_monday : (first : ℕ) → first ≤ sunday → (d : ℕ) → 15 ≤ d → d ≤ 21 → weekday_of_day first d ≡ monday → d ≡ day_of_third_monday first
+  -- as before, it is the first Monday, as many days after the 1st as are left to a Monday, and 14 days
+  pub as_before : (first : ℕ) → first ≤ sunday → day_of_third_monday first ≡ 1 + (7 - first) % 7 + 14
+  -- each month of the calendar has these weekdays
+  pub in_calendar : (y m d : ℕ) → 1 ≤ d → weekday_of_day (weekday y m 1) d ≡ weekday y m d
 
 -- hours of a day as bits
 pub record HourBitLaws : Type 0 where

@@ -4,10 +4,7 @@ ghost use Rattle.calendar.specs.Week.{weekday};
 ghost use Rattle.calendar.specs.Holidays.{third_monday, falls_on, kept_on, has_june_19};
 
 use crate::gregorian::Date;
-
-const MONDAY: u64 = 0;
-
-const FRIDAY: u64 = 4;
+use crate::week::{FRIDAY, MONDAY, SATURDAY, SUNDAY, THURSDAY, TUESDAY, WEDNESDAY};
 
 // Whether a holiday is kept on a day that has the weekday, as it falls on the Saturday after or the Sunday before.
 #[tactic(auto, unfolding(crate::specs::Holidays::kept_on, crate::specs::Holidays::day_before, crate::specs::Holidays::day_after))]
@@ -23,8 +20,8 @@ pub(crate) fn is_kept_on(june_19: bool, month: u32, day: u32, weekday: u64) -> b
 }
 
 impl Date {
-    // The third Monday of the date's month.
-    #[tactic(auto, unfolding(crate::specs::Holidays::third_monday, crate::specs::Holidays::first_monday))]
+    // The third Monday of the date's month, by the weekday of its 1st.
+    #[tactic(auto, unfolding(crate::specs::Holidays::third_monday, crate::specs::Holidays::day_of_third_monday))]
     fn third_monday(self) -> u64
         ensures { result ≡ third_monday (weekday self.year) self.month }
     {
@@ -33,7 +30,16 @@ impl Date {
             month: self.month,
             day: 1,
         };
-        1 + (7 - first.weekday()) % 7 + 14
+        match first.weekday() {
+            MONDAY => 15,
+            SUNDAY => 16,
+            SATURDAY => 17,
+            FRIDAY => 18,
+            THURSDAY => 19,
+            WEDNESDAY => 20,
+            TUESDAY => 21,
+            _ => unreachable!(),
+        }
     }
 
     // 19 June is a holiday from 2021 on.
@@ -45,7 +51,7 @@ impl Date {
     }
 
     // Whether a holiday falls on the date.
-    #[tactic(auto, using(crate::proofs::Weeks::third_monday_from), unfolding(crate::specs::Holidays::falls_on))]
+    #[tactic(auto, unfolding(crate::specs::Holidays::falls_on))]
     pub(crate) fn has_holiday(self) -> bool
         ensures { result ≡ falls_on (weekday self.year) (has_june_19 self.year) self.month self.day }
     {

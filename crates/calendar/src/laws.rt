@@ -1,6 +1,6 @@
 // Functions with empty bodies whose contracts are theorems: the gate asks for their proofs by name.
 ghost use Rattle.numbers.specs.Rows.{EachGiven};
-ghost use Rattle.calendar.specs.Laws.{CalendarLaws, HolidayLaws, HourBitLaws};
+ghost use Rattle.calendar.specs.Laws.{CalendarLaws, HolidayLaws, HourBitLaws, ThirdMondayLaws};
 ghost use Rattle.calendar.specs.Figures.{CalendarGiven, calendar_rows};
 
 pub fn calendar()
@@ -10,6 +10,11 @@ pub fn calendar()
 // 02, Item 1.
 pub fn holidays()
     ensures { HolidayLaws }
+{}
+
+// 02, Item 4.
+pub fn third_monday()
+    ensures { ThirdMondayLaws }
 {}
 
 // Hours of a day as bits (02, Item 3).

@@ -5,8 +5,7 @@ ghost use Rattle.calendar.specs.Peak.{hour_bits, peak_period, peak_day, peak_hou
 use crate::gregorian::Date;
 use crate::holidays::is_kept_on;
 use crate::hours::has_hour;
-
-const SATURDAY: u64 = 5;
+use crate::week::SATURDAY;
 
 // Hours ending 15 to 19, and 8, 9, 19 and 20.
 const SUMMER_HOURS: u32 = 0b0000_0111_1100_0000_0000_0000;

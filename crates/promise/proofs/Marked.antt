@@ -8,7 +8,7 @@ use Rattle.numbers.specs.Split.{first_shares, split, with_sign, split_signed}
 use Rattle.numbers.proofs.Sums.{sum_same, sum_none}
 use Rattle.calendar.specs.Gregorian.{leap_year, month_days, is_date, multiples_below, days_before_year, day_of_year, day_number}
 use Rattle.calendar.specs.Week.{weekday}
-use Rattle.calendar.specs.Holidays.{first_monday, third_monday, falls_on, day_before, day_after, kept_on, free_day, work_day, has_june_19}
+use Rattle.calendar.specs.Holidays.{day_of_third_monday, third_monday, falls_on, day_before, day_after, kept_on, free_day, work_day, has_june_19}
 use Rattle.calendar.specs.Peak.{day_hours, summer_peak, winter_peak, peak_period, peak_hour}
 use Rattle.calendar.specs.DeliveryYear.{calendar_year, is_delivery_date, delivery_day, is_delivery_peak}
 use Rattle.capacity.specs.declared.rating.HourCounts.{HourCounts}
@@ -187,7 +187,7 @@ facts_one = day_joins posted one ∙ ap (λ (F : Facts). with_day F one) facts_p
 
 -- what each Day adds to SH
 served : (day_service 2010 kept_all ≡ 0) × (day_service 2010 beside ≡ 0) × (day_service 2010 one ≡ 1)
-unfolding sum_below within leap_year month_days is_date multiples_below days_before_year day_of_year day_number weekday first_monday third_monday falls_on day_before
+unfolding sum_below within leap_year month_days is_date multiples_below days_before_year day_of_year day_number weekday day_of_third_monday third_monday falls_on day_before
     day_after kept_on free_day work_day has_june_19 summer_peak winter_peak peak_period peak_hour calendar_year is_delivery_date is_delivery_peak is_peak service_hour
 served = (refl, refl, refl)
 

@@ -9,7 +9,7 @@ use Rattle.numbers.specs.Split.{first_shares, split, with_sign, split_signed}
 use Rattle.numbers.proofs.Tests.{both_true}
 use Rattle.calendar.specs.Gregorian.{leap_year, month_days, is_date, multiples_below, days_before_year, day_of_year, day_number}
 use Rattle.calendar.specs.Week.{weekday}
-use Rattle.calendar.specs.Holidays.{first_monday, third_monday, falls_on, day_before, day_after, kept_on, free_day, work_day, has_june_19}
+use Rattle.calendar.specs.Holidays.{day_of_third_monday, third_monday, falls_on, day_before, day_after, kept_on, free_day, work_day, has_june_19}
 use Rattle.calendar.specs.Peak.{summer_peak, winter_peak, peak_period, peak_hour}
 use Rattle.calendar.specs.DeliveryYear.{delivery_days, calendar_year, is_delivery_date, delivery_day, is_delivery_peak}
 use Rattle.capacity.specs.declared.rating.HourCounts.{HourCounts}
@@ -151,7 +151,7 @@ abbrev nets : List ℤ
 nets = of_three (pos 225000) (neg_ℤ (pos 100000)) (pos 0)
 
 nets_listed : (price : ℕ) → list_below party_count (added price (latest_obligation loaded) counts last) ≡ nets
-unfolding sum_below within leap_year month_days is_date multiples_below days_before_year day_of_year day_number weekday first_monday third_monday falls_on day_before
+unfolding sum_below within leap_year month_days is_date multiples_below days_before_year day_of_year day_number weekday day_of_third_monday third_monday falls_on day_before
     day_after kept_on free_day work_day has_june_19 summer_peak winter_peak peak_period peak_hour calendar_year is_delivery_date is_delivery_peak sum_over is_peak service_hour outage_hour derated_watts
     list_below unit_share unit_committed is_ready limited_shortfall unit_limit unit_shortfall limited limit quarters available unforced peak_rated committed
     split_signed with_sign split first_shares
