@@ -14,7 +14,7 @@ parts = $(shell find $(wildcard $(foreach crate,$(1),crates/$(crate)/src crates/
 RUST = rustc --edition 2021 -O
 
 # tests/host/edits reads what rt ci said
-HOST = edits contracts wrong_answers reckoning promises figures format quantities peak_hour peak_week tally kit ledger tools streams run
+HOST = edits contracts wrong_answers reckoning promises figures format quantities peak_hour peak_week third_monday tally kit ledger tools streams run
 
 .PHONY: test run bench ledger week archive
 
