@@ -1,9 +1,7 @@
 -- The formulas' values in range fit 64 bits, and each is what its definition says.
-use Rattle.std.proofs.Common.{refl, cond, ◌≡◌, ℕ, ◌+◌, ◌-◌, ◌*◌, ◌/◌, ◌≤◌, ◌<◌, le_trans, mul-pos, mul-le-mul, div-le_self, arith, ℤ, pos}
-use Rattle.std.proofs.Common.{negsuc}
-use lib.Signed.{lt_z}
-use Rattle.std.proofs.Common.{is_lt, Less, Greater, Equal, Bool, true, false, ltb}
-use Rattle.capacity.specs.Quantities.{unforced_watts}
+use Rattle.std.proofs.Common.{◌≡◌, ℕ, ◌+◌, ◌-◌, ◌*◌, ◌/◌, ◌≤◌, ◌<◌, le_trans, not-suc-le-zero, mul-pos, mul-le-mul, div-le_self, arith, ℤ, pos}
+use Rattle.std.proofs.Common.{negsuc, lt-ltb}
+use Rattle.numbers.specs.Signed.{above}
 use Rattle.capacity.specs.declared.rating.Rating.{Rating}
 use Rattle.capacity.specs.declared.rating.HourCounts.{HourCounts}
 use Rattle.capacity.specs.Shortfall.{limited, installed_most, rate_most}
@@ -46,14 +44,8 @@ committed_fits {e} {days} he from to =
 pub limit_fits : {u q : ℕ} → u ≤ installed_most → q ≤ 4 → u * q ≤ 20000000
 limit_fits h k = mul-le-mul {n₂ = installed_most} {m₂ = 4} h k
 
--- S after the limit is the lower of S and L
-pub lower_of : (l : ℕ) (s : ℤ)
-    → cond (is_lt (cond (lt_z (pos l) s) Less (cond (lt_z s (pos l)) Greater Equal))) (unforced_watts (pos l)) (unforced_watts s) ≡ unforced_watts (limited l s)
-unfolding limited
-lower_of l (pos s) = go (ltb l s) (ltb s l)
-  where
-    go : (t u : Bool) → cond (is_lt (cond t Less (cond u Greater Equal))) (unforced_watts (pos l)) (unforced_watts (pos s)) ≡ unforced_watts (cond t (pos l) (pos s))
-    go true u = refl
-    go false true = refl
-    go false false = refl
-lower_of l (negsuc x) = refl
+-- a shortfall above the limit
+pub over_limit : (l : ℕ) (s : ℤ) → l < above s → limited l s ≡ pos l
+unfolding above limited
+over_limit l (pos s) h = simp (lt-ltb l s h)
+over_limit l (negsuc x) h = absurd (not-suc-le-zero h)

@@ -1,8 +1,9 @@
 // Unforced watts by their parts above and below zero; all sums are worked out on the parts.
-ghost use Rattle.std.specs.Prelude.{◌≡◌, ◌≤◌, ◌<◌, ◌^◌, pos, nat_abs};
+ghost use Rattle.std.specs.Prelude.{◌≡◌, ◌≤◌, ◌<◌, ◌^◌, max, pos, nat_abs};
 ghost use Rattle.numbers.specs.Signed.{above, below, difference_answer};
 ghost use Rattle.capacity.specs.Quantities.{unforced_watts};
 ghost use Rattle.capacity.specs.Shares.{excess_watts};
+ghost use Rattle.capacity.specs.Shortfall.{limited};
 
 use crate::UnforcedWatts;
 use numbers::signed;
@@ -53,5 +54,27 @@ impl UnforcedWatts {
         ensures { result ≡ unforced_watts (difference_answer a b) }
     {
         UnforcedWatts(signed::difference(a, b))
+    }
+
+    // The higher of two that are not below zero. A method here and no order of the type: outside this crate, watts that could be
+    // compared would be read.
+    #[tactic(auto, unfolding(numbers::specs::Signed::above))]
+    pub(crate) fn higher(self, other: Self) -> Self
+        ensures { result ≡ unforced_watts (pos (max (above self.0) (above other.0))) }
+    {
+        UnforcedWatts::new(self.above().max(other.above()))
+    }
+
+    // A shortfall above the limit becomes the limit; an excess, which is below zero, has none.
+    #[tactic(auto, unfolding(crate::specs::Shortfall::limited))]
+    pub(crate) fn limited(self, limit: Self) -> Self
+        ensures { result ≡ unforced_watts (limited (above limit.0) self.0) }
+    {
+        let most = limit.above();
+        if most < self.above() {
+            UnforcedWatts::new(most)
+        } else {
+            self
+        }
     }
 }

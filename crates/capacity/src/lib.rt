@@ -12,7 +12,7 @@ ghost use Rattle.capacity.specs.Quantities.{installed_watts};
 pub struct InstalledWatts(u64);
 
 // Unforced capacity (UCAP): U, X, G, P and the limit; a shortfall, which below zero is an excess; shares and nets of it.
-#[derive(Clone, Copy, PartialEq, Eq, PartialOrd, Ord)]
+#[derive(Clone, Copy)]
 pub struct UnforcedWatts(i64);
 
 impl InstalledWatts {

@@ -101,7 +101,7 @@ impl CommittedUnit {
     }
 
     // P.
-    #[tactic(auto, unfolding(crate::specs::Shortfall::available))]
+    #[tactic(auto, unfolding(crate::specs::Shortfall::available, numbers::specs::Signed::above))]
     fn available(self) -> UnforcedWatts
         ensures { result ≡ unforced_watts (pos (unit_available self.rating self.hours self.commitment.0)) }
     {
@@ -109,7 +109,7 @@ impl CommittedUnit {
         if self.hours.service + self.hours.outage == 0 {
             year_rated
         } else if self.hours.service < 50 {
-            self.peak_rated().max(year_rated)
+            self.peak_rated().higher(year_rated)
         } else {
             self.peak_rated()
         }
@@ -142,13 +142,12 @@ pub fn limited_shortfall(
     ensures { result ≡ unforced_watts (shortfall_answer rating hours commitment.0) }
 {
     if rating.in_range_at(hours, commitment) {
-        // A shortfall above the limit becomes the limit; an excess, which is below zero, has none.
         let unit = CommittedUnit {
             rating,
             hours,
             commitment,
         };
-        unit.shortfall().min(unit.limit())
+        unit.shortfall().limited(unit.limit())
     } else {
         UnforcedWatts(0)
     }
