@@ -1,6 +1,9 @@
 -- A run of hours goes on with each accepted record and stops at the first that is anything else or is refused.
-use Rattle.std.proofs.Common.{◌≡◌, refl, sym, ap, ◌∙◌, Bool, true, false, cond, ◌&&◌, ◌||◌, Some, None, Ok, List, [], ◌∷◌, ℕ, zero, suc, ◌+◌, ◌-◌, ◌≤◌, arith, eqb, ne_eqb, length}
-use Rattle.std.proofs.Common.{take, drop, length-drop, take_all, add-one}
+use Rattle.std.proofs.Common.{◌≡◌, refl, sym, ap, ◌∙◌, Bool, true, false, cond, ◌&&◌, ◌||◌, Some, None, Ok, List, [], ◌∷◌, ℕ, zero, suc, ◌+◌, ◌-◌, ◌≤◌, ◌<◌, arith, eqb, ne_eqb, length}
+use Rattle.std.proofs.Common.{take, drop, length-drop, length-take-le, take_all, add-one, add-zero, add_assoc, min, leb, leb-true, leb-false}
+use native.Mathlib.Nat.{min-le_right}
+use borrow.Author.Tests.{eqb-false}
+use Rattle.std.proofs.lemmas.List.{drop-drop, drop-take, take_min}
 use Rattle.numbers.specs.Range.{within}
 use Rattle.records.specs.declared.format.HourRecord.{HourRecord}
 use Rattle.records.specs.declared.format.DayRecord.{DayRecord}
@@ -18,7 +21,7 @@ use Rattle.rules.specs.Rules.{index, area_index}
 use Rattle.book.specs.Books.{Book}
 use Rattle.book.specs.Entered.{Answer, no_lines, answer, entered}
 use Rattle.book.specs.Steps.{Moved}
-use Rattle.book.specs.Runs.{is_accepted_as, first_accepted, hour_kinds, next_hours, run, hours_of, first_hours}
+use Rattle.book.specs.Runs.{is_accepted_as, first_accepted, hour_kinds, next_hours, Run, run, hours_of, first_hours, hours_between}
 
 -- an Hour and a Day name no area
 pub no_area_lem : 0 ≡ area_index 0
@@ -178,3 +181,90 @@ module _ {first b : Book} {s : List ℕ} {from count : ℕ} (h : HoursLeft first
             few = omega (arith, h.few, some);
             left = rw (moved, add-one count, ne_eqb k 0 some) (rw (sym is, ne_eqb k 0 some) at e);
           }
+
+-- where a run of hours ends: inside, and after no more records than bytes
+record Ended (s : List ℕ) (x : Run) : Type 0 where
+  inside : x.next ≤ length s
+  few : x.count ≤ x.next
+
+hours_end : (m : ℕ) (b : Book) (s : List ℕ) (from count : ℕ) → from ≤ length s → count ≤ from → Ended s (hours_of m b s from count)
+unfolding hours_of
+hours_end zero b s from count inside few = record { inside = inside; few = few }
+hours_end (suc m) b s from count inside few = go (eqb k 0) refl (hours_end m (entered b (take k (drop from s))).book s (from + k) (suc count))
+  where
+    k : ℕ
+    k = next_hours b s from
+
+    go : (t : Bool) → eqb k 0 ≡ t
+        → (from + k ≤ length s → suc count ≤ from + k → Ended s (hours_of m (entered b (take k (drop from s))).book s (from + k) (suc count)))
+        → Ended s (hours_of (suc m) b s from count)
+    go true q rest = rw q (record { inside = inside; few = few })
+    go false q rest =
+        let some : (k ≡ 0 → ⊥) = eqb-false k 0 q in
+        rw q (rest (omega (arith, (taken_whole hour_kinds b (drop from s) k some refl).there, length-drop from s)) (omega (arith, some)))
+
+pub hours_ended : (b : Book) (s : List ℕ) {taken count : ℕ} {after : Book} → run taken count after ≡ first_hours b s → (taken ≤ length s) × (count ≤ taken)
+hours_ended b s e =
+    let end = hours_end (length s) b s 0 0 (omega arith) (omega arith) in
+    let next = ap (λ (x : Run). x.next) e in
+    (omega (arith, next, end.inside), omega (arith, next, ap (λ (x : Run). x.count) e, end.few))
+
+-- From another place on, of the bytes that lie there, it is the same run.
+moved_by : (s : List ℕ) (from n k count : ℕ) (b : Book) → let there = hours_of n b (drop from s) k count in
+    hours_of n b s (from + k) count ≡ run (from + there.next) there.count there.book
+unfolding hours_of
+moved_by s from zero k count b = refl
+moved_by s from (suc n) k count b = rw (ap (first_accepted hour_kinds b) (sym (drop-drop k from s)), sym (drop-drop k from s)) (go (eqb size 0) (moved_by s from n (k + size) (suc count) b'))
+  where
+    t : List ℕ
+    t = drop from s
+
+    size : ℕ
+    size = next_hours b t k
+
+    b' : Book
+    b' = (entered b (take size (drop k t))).book
+
+    there : Run
+    there = hours_of n b' t (k + size) (suc count)
+
+    go : (none : Bool) → hours_of n b' s (from + (k + size)) (suc count) ≡ run (from + there.next) there.count there.book
+        → cond none (run (from + k) count b) (hours_of n b' s (from + k + size) (suc count))
+        ≡ run (from + (cond none (run k count b) there).next) (cond none (run k count b) there).count (cond none (run k count b) there).book
+    go true e = refl
+    go false e = rw (add_assoc from k size) e
+
+-- A run between two places is that of the bytes between them.
+module _ (b : Book) (s : List ℕ) (from to : ℕ) where
+  abbrev later : Run → Run
+  later r = run (from + r.next) r.count r.book
+
+  pub none_between : min to (length s) ≤ from → hours_between b s from to ≡ run (from + 0) 0 b
+  unfolding hours_of
+  none_between behind =
+      let none : min to (length s) - from ≡ 0 = omega (arith, behind) in
+      rw none (ap (λ (at : ℕ). run at 0 b) (sym (add-zero from)))
+
+  pub some_between : {n : ℕ} → from ≤ min to (length s) → n ≡ min to (length s) - from →
+      let t = take n (drop from s) in hours_between b s from to ≡ run (from + (first_hours b t).next) (first_hours b t).count (first_hours b t).book
+  some_between {n} inside is =
+      let cut : min to (length s) ≡ from + n = omega (arith, inside, is) in
+      let same : drop from (take to s) ≡ take n (drop from s) = ap (drop from) (sym (take_min to s) ∙ ap (λ (m : ℕ). take m s) cut) ∙ drop-take from n s in
+      let long : length (take n (drop from s)) ≡ n = length-take-le n (drop from s) (omega (arith, is, length-drop from s, min-le_right to (length s))) in
+      ap (λ (m : ℕ). hours_of m b (take to s) from 0) (sym is) ∙ ap (λ (at : ℕ). hours_of n b (take to s) at 0) (sym (add-zero from))
+      ∙ moved_by (take to s) from n 0 0 b ∙ ap (λ (l : List ℕ). later (hours_of n b l 0 0)) same
+      ∙ ap (λ (m : ℕ). later (hours_of m b (take n (drop from s)) 0 0)) (sym long)
+
+  -- whatever the places
+  pub run_of_part : let t = take (min to (length s) - from) (drop from s) in
+      hours_between b s from to ≡ run (from + (first_hours b t).next) (first_hours b t).count (first_hours b t).book
+  unfolding hours_of
+  run_of_part = go (leb from (min to (length s))) refl
+    where
+      go : (i : Bool) → leb from (min to (length s)) ≡ i → let t = take (min to (length s) - from) (drop from s) in
+          hours_between b s from to ≡ run (from + (first_hours b t).next) (first_hours b t).count (first_hours b t).book
+      go true i = some_between (leb-true from (min to (length s)) i) refl
+      go false i =
+          let behind : min to (length s) < from = leb-false from (min to (length s)) i in
+          let none : min to (length s) - from ≡ 0 = omega (arith, behind) in
+          none_between (omega (arith, behind)) ∙ rw none refl

@@ -7,7 +7,7 @@ use Rattle.records.specs.Stream.{first_strings}
 use Rattle.book.specs.Books.{Book}
 use Rattle.book.specs.Entered.{entered, book_after}
 use Rattle.book.specs.Runs.{Run, hour_kinds, next_hours, hours_of, first_hours, strings_taken, HourRunLaws}
-use Rattle.book.proofs.HourRuns.{TakenWhole, taken_whole}
+use Rattle.book.proofs.HourRuns.{TakenWhole, taken_whole, run_of_part}
 
 -- a run x from a place on, after so many records
 record Taken (b : Book) (s : List ℕ) (from count : ℕ) (x : Run) : Type 0 where
@@ -71,4 +71,4 @@ module _ (b : Book) (s : List ℕ) where
   hours_joined = rw (counted, ended) of_run.joined
 
 pub run_laws : HourRunLaws
-run_laws = record { hours_entered = hours_entered; hours_joined = hours_joined }
+run_laws = record { hours_entered = hours_entered; hours_joined = hours_joined; of_part = run_of_part }

@@ -1,5 +1,5 @@
 -- A run of accepted Hour and Day records in a row, with nothing between them.
-use Rattle.std.specs.Prelude.{◌≡◌, Bool, cond, ◌&&◌, List, [], ◌∷◌, ℕ, zero, suc, ◌+◌, eqb, length, take, drop}
+use Rattle.std.specs.Prelude.{◌≡◌, Bool, cond, ◌&&◌, List, [], ◌∷◌, ℕ, zero, suc, ◌+◌, ◌-◌, min, eqb, length, take, drop}
 use mathlib.Core.List.{flatten}
 use Rattle.records.specs.Format.{Format, hour_format, day_format}
 use Rattle.records.specs.Decoded.{decoded}
@@ -45,6 +45,10 @@ hours_of (suc n) b s from count =
 abbrev pub first_hours : Book → List ℕ → Run
 first_hours b s = hours_of (length s) b s 0 0
 
+-- those of s between two places; nothing is beyond the end of s
+abbrev pub hours_between : Book → List ℕ → ℕ → ℕ → Run
+hours_between b s from to = hours_of (min to (length s) - from) b (take to s) from 0
+
 -- the strings that a run over s took
 abbrev pub strings_taken : Run → List ℕ → List (List ℕ)
 strings_taken r s = first_strings r.count s
@@ -55,3 +59,6 @@ pub record HourRunLaws : Type 0 where
   pub hours_entered : (b : Book) (s : List ℕ) → (first_hours b s).book ≡ book_after b (strings_taken (first_hours b s) s)
   -- end to end they are the bytes that it took
   pub hours_joined : (b : Book) (s : List ℕ) → flatten (strings_taken (first_hours b s) s) ≡ take (first_hours b s).next s
+  -- between two places, whatever they are, it is the run over the bytes between them
+  pub of_part : (b : Book) (s : List ℕ) (from to : ℕ) → let part = take (min to (length s) - from) (drop from s) in
+      hours_between b s from to ≡ run (from + (first_hours b part).next) (first_hours b part).count (first_hours b part).book

@@ -1,11 +1,11 @@
 // The book: units, commitments and posted sums, one value; records are entered, and areas posted.
 #![tactic(auto)]
 
-ghost use Rattle.std.specs.Prelude.{◌≡◌, [], ◌∷◌};
+ghost use Rattle.std.specs.Prelude.{◌≡◌, [], ◌∷◌, ◌+◌, ◌≤◌, max, length};
 ghost use Rattle.book.specs.Books.{empty_book};
 ghost use Rattle.book.specs.Entered.{answered, entered};
 ghost use Rattle.records.specs.Format.{hour_format, day_format};
-ghost use Rattle.book.specs.Runs.{hour_kinds, first_accepted, run, first_hours};
+ghost use Rattle.book.specs.Runs.{hour_kinds, first_accepted, run, first_hours, hours_between};
 ghost use Rattle.book.specs.Steps.{Moved};
 
 use calendar::delivery_year::KnownDate;
@@ -73,6 +73,9 @@ impl Book {
     pub const PARTIES: usize = indices::PARTIES;
 
     pub const COMMITMENTS: usize = indices::COMMITMENTS;
+
+    // Pairs of an area and a party.
+    pub const PAIRS: usize = Book::AREAS * Book::PARTIES;
 
     // A book with nothing entered.
     pub fn new() -> Self
@@ -192,6 +195,22 @@ impl Book {
                 records: taken.records + 1,
             };
         }
+    }
+
+    // `hours` between two places of a slice, whatever they are: nothing lies beyond its end, and nothing between a place and an earlier
+    // one.
+    pub fn hours_between(&mut self, s: &[u8], from: usize, to: usize) -> Taken
+        ensures value { run (from + result.bytes) result.records self.new ≡ hours_between self.old s.now from to }
+        ensures inside { from + result.bytes ≤ max from (length s.now) }
+    {
+        let end = to.min(s.len());
+        if end < from {
+            return Taken {
+                bytes: 0,
+                records: 0,
+            };
+        }
+        self.hours(&s[from..end])
     }
 }
 

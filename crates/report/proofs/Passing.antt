@@ -17,7 +17,7 @@ use Rattle.book.specs.declared.Book.{Book}
 use Rattle.book.specs.Books.{facts_of_book}
 use Rattle.book.specs.Entered.{no_lines, lines_of, entered}
 use Rattle.book.specs.Runs.{is_accepted_as, hour_kinds, next_hours, Run, run, hours_of, first_hours}
-use Rattle.book.proofs.HourRuns.{taken_whole, taken_accepted}
+use Rattle.book.proofs.HourRuns.{taken_whole, taken_accepted, hours_ended}
 use Rattle.report.specs.Passes.{State, standing, post_area, tried, after_run, HoursTaken, stopped, room, pass_of, passed, Left, ended, closed, pass_answer, countable, close_answer, finish_answer}
 use Rattle.report.specs.declared.pass.Stop.TheVariants as stop
 use Rattle.report.specs.Printed.{pair_most, party_lines, answer_text}
@@ -28,33 +28,6 @@ rest s at = take (length s - at) (drop at s)
 
 rest_is : (s : List ℕ) (at : ℕ) → rest s at ≡ drop at s
 rest_is s at = take_all (length s - at) (drop at s) (omega (arith, length-drop at s))
-
--- where a run of hours ends: inside, and after no more records than bytes
-record Ended (s : List ℕ) (x : Run) : Type 0 where
-  inside : x.next ≤ length s
-  few : x.count ≤ x.next
-
-hours_end : (m : ℕ) (b : Book) (s : List ℕ) (from count : ℕ) → from ≤ length s → count ≤ from → Ended s (hours_of m b s from count)
-unfolding hours_of
-hours_end zero b s from count inside few = record { inside = inside; few = few }
-hours_end (suc m) b s from count inside few = go (eqb k 0) refl (hours_end m (entered b (take k (drop from s))).book s (from + k) (suc count))
-  where
-    k : ℕ
-    k = next_hours b s from
-
-    go : (t : Bool) → eqb k 0 ≡ t
-        → (from + k ≤ length s → suc count ≤ from + k → Ended s (hours_of m (entered b (take k (drop from s))).book s (from + k) (suc count)))
-        → Ended s (hours_of (suc m) b s from count)
-    go true q rest = rw q (record { inside = inside; few = few })
-    go false q rest =
-        let some : (k ≡ 0 → ⊥) = eqb-false k 0 q in
-        rw q (rest (omega (arith, (taken_whole hour_kinds b (drop from s) k some refl).there, length-drop from s)) (omega (arith, some)))
-
-pub hours_ended : (b : Book) (s : List ℕ) {taken count : ℕ} {after : Book} → run taken count after ≡ first_hours b s → (taken ≤ length s) × (count ≤ taken)
-hours_ended b s e =
-    let end = hours_end (length s) b s 0 0 (omega arith) (omega arith) in
-    let next = ap (λ (x : Run). x.next) e in
-    (omega (arith, next, end.inside), omega (arith, next, ap (λ (x : Run). x.count) e, end.few))
 
 pub hours_counted : (r : State) (s : List ℕ) {taken count : ℕ} {after : Book} → run taken count after ≡ first_hours r.book s
     → HoursTaken r s taken (record { book = after; tried = r.tried + count; accepted = r.accepted + count; text = r.text })

@@ -1,6 +1,7 @@
 use Rattle.std.proofs.Common.{arith, []}
 use Rattle.report.specs.Passes.{state_of}
-use Rattle.report.proofs.Passing.{hours_ended, hours_counted}
+use Rattle.book.proofs.HourRuns.{hours_ended}
+use Rattle.report.proofs.Passing.{hours_counted}
 use Rattle.report.proofs.standing.Report.take_hours.Goals as goal
 
 pub overflow_add-self : goal.overflow_add-self
