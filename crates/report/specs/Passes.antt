@@ -148,3 +148,9 @@ close_answer size r = cond (leb (length r.text + pair_most) size) (Some (closed 
 abbrev pub finish_answer : ℕ → State → List ℕ → Option (List ℕ)
 finish_answer size r [] = close_answer size r
 finish_answer size r (b ∷ s) = cond (ltb (r.tried + 1) (2 ^ 64) && leb (length r.text + room) size) (Some (closed (tried r (b ∷ s)))) None
+
+-- From any counts, those of a report or not: where more count as accepted than tried, they do not fit a cut record, and it is a
+-- failure.
+abbrev pub finish_from_answer : ℕ → State → List ℕ → Option (List ℕ)
+finish_from_answer size r [] = close_answer size r
+finish_from_answer size r (b ∷ s) = cond (leb r.accepted r.tried) (finish_answer size r (b ∷ s)) None

@@ -18,4 +18,10 @@ impl Report {
     {
         self.tried
     }
+
+    pub fn accepted(&self) -> u64
+        ensures { result ≡ self.now.accepted }
+    {
+        self.accepted
+    }
 }
